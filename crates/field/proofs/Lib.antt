@@ -1,0 +1,10 @@
+pub mod Sums
+pub mod Additive
+pub mod Reducing
+pub mod Products
+pub mod Pigeonhole
+pub mod Powers
+pub mod Tests
+pub mod Orders
+pub mod Instances
+pub mod Laws

@@ -1,0 +1,12 @@
+use borrow.Author.Tests.{le-leb, lt-leb}
+use Rattle.units.proofs.n_allowed.Statement.{statement}
+use Rattle.units.proofs.n_allowed.Tie as tie
+
+returns : tie.Need-returns
+returns c = simp (le-leb _ _ (c .if1 .taken))
+
+returns-2 : tie.Need-returns-2
+returns-2 c = simp (lt-leb _ _ (c .if1 .left))
+
+pub n-allowed-spec : {M : Type 1} → statement M
+n-allowed-spec = tie.close (tie.spec returns returns-2)
