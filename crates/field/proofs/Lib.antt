@@ -1,3 +1,4 @@
+-- The laws of a field, from the sum's up; `Laws` has them together, `Instances` the two fields.
 pub mod Sums
 pub mod Additive
 pub mod Reducing

@@ -2,7 +2,8 @@
 -- Assumes nothing.
 use mathlib.Core.Path.{_≡_, refl, sym, ap, ap₂, _∙_, subst}
 use Prim.Native.Nat.{ℕ, zero, suc, _+_, _*_, _/_, _%_, _^_, _≤_, _<_}
-use native.Mathlib.Nat.{pow-suc, mul-one, add-comm, add-zero, suc-add, zero-add, div-self, le-refl, le-of-suc-le, le-of-suc-le-suc, le-dest, zero-lt-suc, not-suc-le-zero, mul-mod-left, eq-or-lt-of-le, one-mul, div-lt-iff-lt-mul, div-eq-of-lt-le, lt-trans, mod-eq-of-lt}
+use native.Mathlib.Nat.{pow-suc, mul-one, add-comm, add-zero, suc-add, zero-add, div-self, le-refl, le-of-suc-le, le-of-suc-le-suc}
+use native.Mathlib.Nat.{le-dest, zero-lt-suc, not-suc-le-zero, mul-mod-left, eq-or-lt-of-le, one-mul, div-lt-iff-lt-mul, div-eq-of-lt-le, lt-trans, mod-eq-of-lt}
 use mathlib.Core.Logic.{⊎-elim, dite}
 use native.Mathlib.Decide.{decLt}
 use native.Mathlib.Omega.{arith}

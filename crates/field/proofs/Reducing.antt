@@ -46,11 +46,7 @@ module _ (F : Field) where
   pub reduced-sum : (k : ℕ) → Additive (reduced F k)
   unfolding reduced
   reduced-sum zero u v = refl
-  reduced-sum (suc k) u v =
-      ap (reduced F k)
-      (ap (λ (x : ℕ). x ⊕ (u ⊕ v)) (scaled-digits (F .width + k) u v (F .polynomial * 2 ^ k))
-      ∙ sum-cross (scaled (digit (F .width + k) u) (F .polynomial * 2 ^ k)) (scaled (digit (F .width + k) v) (F .polynomial * 2 ^ k)) u v)
-      ∙ reduced-sum k _ _
+  reduced-sum (suc k) u v = rw (scaled-digits (F .width + k) u v) (ap (reduced F k) (sum-cross _ _ u v) ∙ reduced-sum k _ _)
 
   pub doubled-sum : Additive (doubled F)
   unfolding doubled
@@ -70,9 +66,7 @@ module _ (F : Field) where
   unfolding reduced
   reduced-below zero h = refl
   reduced-below (suc k) {u} h =
-      ap (reduced F k)
-      (ap (λ (d : ℕ). scaled d (F .polynomial * 2 ^ k) ⊕ u) (digit-above (F .width + k) (lt-of-lt-of-le h (pow-mono (le-add-right (F .width) k)))) ∙ zero-sum u)
-      ∙ reduced-below k h
+      rw (digit-above (F .width + k) (lt-of-lt-of-le h (pow-mono (le-add-right (F .width) k))), zero-sum u) (reduced-below k h)
 
   -- to shift and reduce is to reduce and double
   pub reduced-shift : (k u : ℕ) → reduced F (suc k) (u * 2) ≡ doubled F (reduced F k u)

@@ -1,1 +1,2 @@
+-- What the contracts of `field` cite.
 pub mod Field

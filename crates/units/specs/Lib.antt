@@ -1,3 +1,4 @@
+-- What the contracts of `units`, and of every crate above it, cite.
 pub mod Counts
 pub mod Sizes
 pub mod Refusals

@@ -1,3 +1,5 @@
+-- `units::exponent_of` meets its contract: a product modulo 65,535 is that of its factors modulo 65,535, which fits a word.
+-- Assumes nothing.
 use Prim.Native.Nat.{ℕ, _%_, _≤_}
 use native.Mathlib.Nat.{lt-of-le-of-lt, mod-lt, mul-le-mul}
 use native.Mathlib.Omega.{arith}

@@ -1,3 +1,5 @@
+-- `units::n_allowed` meets its contract.
+-- Assumes nothing.
 use borrow.Author.Tests.{le-leb, lt-leb}
 use Rattle.units.proofs.n_allowed.Statement.{statement}
 use Rattle.units.proofs.n_allowed.Tie as tie

@@ -1,3 +1,5 @@
+-- `units::page_allowed` meets its contract.
+-- Assumes nothing.
 use borrow.Author.Tests.{eq-eqb, ne-eqb, le-leb, lt-leb}
 use Rattle.units.proofs.page_allowed.Statement.{statement}
 use Rattle.units.proofs.page_allowed.Tie as tie
