@@ -2,10 +2,12 @@
 // the constants of the PAR2 specification, and products taken by logarithms.
 use libc::STDOUT_FILENO;
 use units::Bytes;
+use units::Refusal;
 use units::Symbols;
 
 fn main() {
     sizes();
+    refusals();
     products();
     powers();
     order();
@@ -83,6 +85,27 @@ fn allowed(yes: bool) {
     } else {
         text(b": not allowed\n");
     }
+}
+
+fn refusals() {
+    text(b"refusals\n");
+    refusal(b"SIZE", Refusal::SIZE);
+    refusal(b"PAGE", Refusal::PAGE);
+    refusal(b"LONG", Refusal::LONG);
+    refusal(b"ODD", Refusal::ODD);
+    refusal(b"MAP", Refusal::MAP);
+    refusal(b"MATCH", Refusal::MATCH);
+    refusal(b"ROOM", Refusal::ROOM);
+    refusal(b"EMPTY", Refusal::EMPTY);
+    refusal(b"PAGENO", Refusal::PAGENO);
+    refusal(b"DAMAGED", Refusal::DAMAGED);
+}
+
+fn refusal(name: &[u8], number: u32) {
+    io::print_decimal(STDOUT_FILENO, number as u64);
+    text(b" ");
+    text(name);
+    text(b"\n");
 }
 
 fn products() {

@@ -2,7 +2,7 @@
 -- Assumes nothing.
 use mathlib.Core.Path.{_≡_, refl, sym, ap, ap₂, _∙_, subst}
 use Prim.Native.Nat.{ℕ, zero, suc, _+_, _*_, _/_, _%_, _^_, _<_}
-use native.Mathlib.Nat.{add-suc, add-zero, mul-suc, mul-comm, add-comm, div-add-mod', mod-lt, zero-lt-suc, lt-of-le-of-lt, lt-trans, div-le-self, div-mul-le-self, mul-zero, le-mul-of-pos-right}
+use native.Mathlib.Nat.{add-suc, add-zero, mul-suc, mul-comm, add-comm, div-add-mod', mod-lt, zero-lt-suc, lt-of-le-of-lt, div-le-self, div-mul-le-self, mul-zero, le-mul-of-pos-right}
 use native.Mathlib.Omega.{arith}
 use lib.Arith.{lt-one}
 use native.Mathlib.Numerals.{add-one}
@@ -11,7 +11,7 @@ use Rattle.field.specs.Field.{Field, Element, _⊕_, scaled, product, do
 use Rattle.field.proofs.Sums.{sum-comm, sum-assoc, sum-left-comm, zero-sum, sum-zero, sum-split}
 use Rattle.field.proofs.Additive.{at-zero}
 use Rattle.field.proofs.Reducing.{reduced-below, product-sum}
-use Rattle.field.proofs.Products.{Formed, doubled-element, product-element, product-doubled, product-assoc, product-one, one-product, product-two}
+use Rattle.field.proofs.Products.{Formed, one-element, doubled-element, product-element, product-doubled, product-assoc, product-one, one-product, product-two}
 
 half-lt : (n y : ℕ) → y < 2 ^ suc n → y / 2 < 2 ^ n
 half-lt n y h = shr-lt n 1 (subst (λ (k : ℕ). y < 2 ^ k) (sym (add-one n)) h)
@@ -33,9 +33,6 @@ module _ (F : Field) where
   climbed (suc n) r s e = climbed n (raised (e % 2) r s) (worked (F .width) 0 s s) (e / 2)
 
 module _ (F : Field) (formed : Formed F) where
-  pub one-element : Element F 1
-  one-element = pow-lt (lt-trans (zero-lt-suc 0) (formed .wide))
-
   pub α-element : Element F 2
   α-element = pow-lt (formed .wide)
 
@@ -45,7 +42,7 @@ module _ (F : Field) (formed : Formed F) where
 
   pub power-element : {a : ℕ} (k : ℕ) → Element F a → Element F (power F a k)
   unfolding power
-  power-element zero h = one-element
+  power-element zero h = one-element F formed
   power-element {a} (suc k) h = product-element F formed a (power-element k h)
 
   pub power-add : {a : ℕ} (i j : ℕ) → Element F a → power F a (i + j) ≡ product F (power F a i) (power F a j)
@@ -65,7 +62,7 @@ module _ (F : Field) (formed : Formed F) where
   pub power-one : (k : ℕ) → power F 1 k ≡ 1
   unfolding power
   power-one zero = refl
-  power-one (suc k) = product-one F formed (power-element k one-element) ∙ power-one k
+  power-one (suc k) = product-one F formed (power-element k (one-element F formed)) ∙ power-one k
 
   -- ---- the product, by the halves of its second number
 
@@ -81,7 +78,7 @@ module _ (F : Field) (formed : Formed F) where
   unfolding doubled
   even-doubled b h = product-two F formed (lt-of-le-of-lt (le-mul-of-pos-right b (zero-lt-suc 1)) h) ∙ reduced-below F 1 h
 
-  pub product-halves : {a b : ℕ} → Element F a → Element F b → product F a b ≡ scaled (b % 2) a ⊕ product F (doubled F a) (b / 2)
+  product-halves : {a b : ℕ} → Element F a → Element F b → product F a b ≡ scaled (b % 2) a ⊕ product F (doubled F a) (b / 2)
   product-halves {a} {b} ha hb =
       ap (product F a) (sym (sum-split (b / 2) 1 (mod-lt b (zero-lt-suc 1)) ∙ div-add-mod' b 2))
       ∙ product-sum F a (b / 2 * 2) (b % 2)
@@ -110,7 +107,7 @@ module _ (F : Field) (formed : Formed F) where
       worked-product n (scaled (y % 2) x ⊕ r) (doubled-element F formed hx) (lt-of-le-of-lt (div-le-self y 2) hy) (half-lt n y h)
       ∙ product-turn r hx hy
 
-  pub times : {x y : ℕ} → Element F x → Element F y → worked F (F .width) 0 x y ≡ product F x y
+  times : {x y : ℕ} → Element F x → Element F y → worked F (F .width) 0 x y ≡ product F x y
   times {x} {y} hx hy = worked-product (F .width) 0 hx hy hy ∙ zero-sum (product F x y)
 
   -- ---- the power, by the halves of its exponent

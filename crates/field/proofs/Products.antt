@@ -11,7 +11,7 @@ use lib.Bits.{bitXor, xor-comm, xor-mod, xor-shr}
 use lib.Pow.{pow-pos, pow-lt, pow-add, shl-shr}
 use Rattle.field.specs.Field.{Field, Element, _⊕_, digit, scaled, reduced, product, doubled}
 use Rattle.field.proofs.Sums.{zero-sum, sum-zero, sum-lt}
-use Rattle.field.proofs.Additive.{Additive, at-zero, at-scaled, agree}
+use Rattle.field.proofs.Additive.{at-zero, at-scaled, agree}
 use Rattle.field.proofs.Reducing.{digit-above, reduced-below, doubled-sum, product-sum, sum-product, doublings, spread, product-spread}
 
 pub record Formed (F : Field) : Type 0 where
@@ -46,12 +46,7 @@ tops-cancel w u v p q =
     (div-lt-iff-lt-mul (pow-pos w) .0 (subst (λ (n : ℕ). n < 1) (sym (xor-shr u v w ∙ ap₂ bitXor p q)) (zero-lt-suc 0)))
 
 module _ (F : Field) where
-  pub doublings-sum : (i : ℕ) → Additive (doublings F i)
-  unfolding doublings
-  doublings-sum zero a b = refl
-  doublings-sum (suc i) a b = ap (doubled F) (doublings-sum i a b) ∙ doubled-sum F (doublings F i a) (doublings F i b)
-
-  pub doublings-add : (i j a : ℕ) → doublings F i (doublings F j a) ≡ doublings F (i + j) a
+  doublings-add : (i j a : ℕ) → doublings F i (doublings F j a) ≡ doublings F (i + j) a
   unfolding doublings
   doublings-add zero j a = ap (λ (n : ℕ). doublings F n a) (sym (zero-add j))
   doublings-add (suc i) j a = ap (doubled F) (doublings-add i j a) ∙ ap (λ (n : ℕ). doublings F n a) (sym (suc-add i j))
@@ -118,7 +113,7 @@ module _ (F : Field) where
         ∙ ap (λ (n : ℕ). n % 2 ^ F .width) (sym (doubled-over h g))
         ∙ mod-eq-of-lt (doubled-element h)
 
-    pub doublings-element : (i : ℕ) {a : ℕ} → Element F a → Element F (doublings F i a)
+    doublings-element : (i : ℕ) {a : ℕ} → Element F a → Element F (doublings F i a)
     unfolding doublings
     doublings-element zero h = h
     doublings-element (suc i) h = doubled-element (doublings-element i h)
@@ -131,7 +126,7 @@ module _ (F : Field) where
     pub product-element : {a : ℕ} (b : ℕ) → Element F a → Element F (product F a b)
     product-element {a} b h = subst (λ (n : ℕ). n < 2 ^ F .width) (sym (product-spread F b h)) (spread-element (F .width) b h)
 
-    pub product-power : (k : ℕ) {a : ℕ} → k < F .width → Element F a → product F a (2 ^ k) ≡ doublings F k a
+    product-power : (k : ℕ) {a : ℕ} → k < F .width → Element F a → product F a (2 ^ k) ≡ doublings F k a
     product-power k {a} hk h = product-spread F (2 ^ k) h ∙ spread-hit (F .width) k a hk
 
     pub product-doubled : {a : ℕ} (b : ℕ) → Element F a → product F (doubled F a) b ≡ doubled F (product F a b)
@@ -143,7 +138,7 @@ module _ (F : Field) where
     product-doublings zero b h = refl
     product-doublings (suc k) b h = product-doubled b (doublings-element k h) ∙ ap (doubled F) (product-doublings k b h)
 
-    one-element : Element F 1
+    pub one-element : Element F 1
     one-element = pow-lt (lt-trans (zero-lt-suc 0) (formed .wide))
 
     doublings-one : (i : ℕ) → i < F .width → doublings F i 1 ≡ 2 ^ i

@@ -83,9 +83,6 @@ sum-undo a b = sym (sum-assoc a a b) ∙ ap (λ (x : ℕ). x ⊕ b) (sum-self a)
 pub equal-of-sum : (a b : ℕ) → a ⊕ b ≡ 0 → a ≡ b
 equal-of-sum a b e = sym (sum-zero a) ∙ ap (λ (x : ℕ). a ⊕ x) (sym e) ∙ sum-undo a b
 
-pub sum-cancel : (a b c : ℕ) → a ⊕ b ≡ a ⊕ c → b ≡ c
-sum-cancel a b c e = sym (sum-undo a b) ∙ ap (λ (x : ℕ). a ⊕ x) e ∙ sum-undo a c
-
 -- a shift moves every digit of a sum
 pub sum-shift : (k a b : ℕ) → (a ⊕ b) * 2 ^ k ≡ a * 2 ^ k ⊕ b * 2 ^ k
 unfolding _⊕_

@@ -9,8 +9,8 @@ use native.Mathlib.Nat.{not-suc-le-zero, le-of-suc-le-suc, eq-or-lt-of-le, suc-n
 use lib.Dec.{T, leb, eqb, leb→le, eqb→eq, T-not}
 use lib.Pow.{ones-lt}
 use Rattle.field.specs.Field.{Field, power, α, order}
-use Rattle.field.proofs.Products.{Formed, one-product}
-use Rattle.field.proofs.Powers.{climbed, climbed-power, one-element, α-element, power-element}
+use Rattle.field.proofs.Products.{Formed, one-element, one-product}
+use Rattle.field.proofs.Powers.{climbed, climbed-power, α-element, power-element}
 
 -- the test f passes at each number below n
 unfoldable pub below : (ℕ → Bool) → ℕ → Bool
@@ -21,7 +21,7 @@ below-both : (b : Bool) (r : Bool) → T (elim b [ true ↦ r | false ↦ false 
 below-both true r t = (tt, t)
 below-both false r t = absurd t
 
-pub at-below : (f : ℕ → Bool) (n : ℕ) → T (below f n) → (k : ℕ) → k < n → T (f k)
+at-below : (f : ℕ → Bool) (n : ℕ) → T (below f n) → (k : ℕ) → k < n → T (f k)
 unfolding below
 at-below f zero t k h = absurd (not-suc-le-zero h)
 at-below f (suc n) t k h =
@@ -54,7 +54,7 @@ module _ (F : Field) (good : Passes F) where
       climbed-power F formed (F .width) k (one-element F formed) (α-element F formed) h
       ∙ one-product F formed (power-element F formed k (α-element F formed))
 
-  pub order-lt : order F < 2 ^ F .width
+  order-lt : order F < 2 ^ F .width
   order-lt = ones-lt (F .width)
 
   pub α-returns : power F α (order F) ≡ 1
