@@ -1,7 +1,7 @@
 -- `field::product` meets its contract. The invariant: r and the product of what is left sum to the product that is asked for.
 -- Assumes nothing.
-use mathlib.Core.Path.{_≡_, sym, ap, _∙_}
-use Prim.Native.Nat.{ℕ, _<_}
+use mathlib.Core.Path.{_≡_, sym, ap, ap₂, _∙_}
+use Prim.Native.Nat.{ℕ, _<_, _/_}
 use native.Mathlib.Omega.{arith}
 use Rattle.field.specs.Field.{GF16, _⊕_, product}
 use Rattle.field.proofs.Sums.{zero-sum, sum-zero}
@@ -33,8 +33,14 @@ loop-less c = omega arith
 
 loop-again : tie.Need-loop-again Inv-loop μ-loop
 loop-again c =
-    let at : _ = c .before .before .before .before .loop in
-    (omega arith, omega arith, cc (product-turn GF16 GF16-formed (at .r) (at .inv .0) (at .inv .1)))
+    let at : _ = c .before .before .before .before .loop in (
+      omega arith,
+      omega arith,
+      ap₂ (λ (n x : ℕ). n ⊕ product GF16 x (at .y / 2))
+          (c .before .sum .ensures ∙ ap (λ (n : ℕ). n ⊕ at .r) (c .before .before .scaled .ensures)) (c .double .ensures)
+          ∙ product-turn GF16 GF16-formed (at .r) (at .inv .0) (at .inv .1)
+          ∙ at .inv .2,
+    )
 
 returns : tie.Need-returns Inv-loop μ-loop
 returns c =

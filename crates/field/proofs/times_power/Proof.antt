@@ -1,7 +1,7 @@
 -- `field::times_power` meets its contract. The invariant: r times the power of s that is left is what is asked for.
 -- Assumes nothing.
-use mathlib.Core.Path.{_≡_, refl, sym, ap, _∙_}
-use Prim.Native.Nat.{_<_}
+use mathlib.Core.Path.{_≡_, refl, sym, ap, ap₂, _∙_}
+use Prim.Native.Nat.{ℕ, _<_, _/_}
 use native.Mathlib.Omega.{arith}
 use Rattle.field.specs.Field.{GF16, α, product, power}
 use Rattle.field.proofs.Products.{product-one}
@@ -30,8 +30,13 @@ loop-less c = omega arith
 
 loop-again : tie.Need-loop-again Inv-loop μ-loop
 loop-again c =
-    let at : _ = c .before .before .before .loop in
-    (omega arith, omega arith, cc (power-halves GF16 GF16-formed (at .left) (at .inv .0) (at .inv .1)))
+    let at : _ = c .before .before .before .loop in (
+      omega arith,
+      omega arith,
+      ap₂ (λ (r s : ℕ). product GF16 r (power GF16 s (at .left / 2))) (c .before .raised .ensures) (c .product .ensures)
+          ∙ sym (power-halves GF16 GF16-formed (at .left) (at .inv .0) (at .inv .1))
+          ∙ at .inv .2,
+    )
 
 returns : tie.Need-returns Inv-loop μ-loop
 returns c =
