@@ -1,9 +1,9 @@
 -- `field::product` meets its contract. The invariant: r and the product of what is left sum to the product that is asked for.
 -- Assumes nothing.
 use mathlib.Core.Path.{_≡_, sym, ap, ap₂, _∙_}
-use Prim.Native.Nat.{ℕ, _<_, _/_}
+use Prim.Native.Nat.{ℕ, _<_, _/_, _%_}
 use native.Mathlib.Omega.{arith}
-use Rattle.field.specs.Field.{GF16, _⊕_, product}
+use Rattle.field.specs.Field.{GF16, _⊕_, scaled, product, doubled}
 use Rattle.field.proofs.Sums.{zero-sum, sum-zero}
 use Rattle.field.proofs.Powers.{product-zero, product-turn}
 use Rattle.field.proofs.Instances.{GF16-formed}
@@ -33,11 +33,12 @@ loop-less c = omega arith
 
 loop-again : tie.Need-loop-again Inv-loop μ-loop
 loop-again c =
-    let at : _ = c .before .before .before .before .loop in (
+    let at : _ = c .before .before .before .before .loop in
+    let part : c .before .before .scaled .result ≡ scaled (at .y % 2) (at .x) = c .before .before .scaled .ensures in
+    let twice : c .double .result ≡ doubled GF16 (at .x) = c .double .ensures in (
       omega arith,
       omega arith,
-      ap₂ (λ (n x : ℕ). n ⊕ product GF16 x (at .y / 2))
-          (c .before .sum .ensures ∙ ap (λ (n : ℕ). n ⊕ at .r) (c .before .before .scaled .ensures)) (c .double .ensures)
+      ap₂ (λ (n x : ℕ). n ⊕ product GF16 x (at .y / 2)) (c .before .sum .ensures ∙ ap (λ (n : ℕ). n ⊕ at .r) part) twice
           ∙ product-turn GF16 GF16-formed (at .r) (at .inv .0) (at .inv .1)
           ∙ at .inv .2,
     )
