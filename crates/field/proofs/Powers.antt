@@ -7,7 +7,7 @@ use native.Mathlib.Omega.{arith}
 use lib.Arith.{lt-one}
 use native.Mathlib.Numerals.{add-one}
 use lib.Pow.{pow-lt, shr-lt}
-use Rattle.field.specs.Field.{Field, Element, _⊕_, scaled, product, doubled, power}
+use Rattle.field.specs.Field.{Field, Element, _⊕_, scaled, product, doubled, power, α}
 use Rattle.field.proofs.Sums.{sum-comm, sum-assoc, sum-left-comm, zero-sum, sum-zero, sum-split}
 use Rattle.field.proofs.Additive.{at-zero}
 use Rattle.field.proofs.Reducing.{reduced-below, product-sum}
@@ -119,6 +119,14 @@ module _ (F : Field) (formed : Formed F) where
   power-two : {s : ℕ} → Element F s → power F s 2 ≡ product F s s
   unfolding power
   power-two {s} hs = ap (λ (x : ℕ). product F x s) (power-once hs)
+
+  -- a turn that doubles: α goes from the power to the other factor
+  pub power-doubled : (k : ℕ) {r : ℕ} → Element F r → product F (doubled F r) (power F α k) ≡ product F r (power F α (suc k))
+  unfolding power
+  power-doubled k {r} hr =
+      product-doubled F formed (power F α k) hr
+      ∙ sym (product-two F formed (product-element F formed (power F α k) hr))
+      ∙ product-assoc F formed hr (power-element k α-element) α-element
 
   pub power-halves : (e : ℕ) {r s : ℕ} → Element F r → Element F s
       → product F r (power F s e) ≡ product F (product F r (power F s (e % 2))) (power F (product F s s) (e / 2))

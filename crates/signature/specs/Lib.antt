@@ -1,0 +1,4 @@
+-- What the contracts of `signature`, and of every crate above it, cite.
+pub mod Objects
+pub mod Signatures
+pub mod Operations

@@ -1,0 +1,18 @@
+-- An object is a list of bytes, and its symbols are numbers of `size` bytes each, low byte first. A last symbol that is cut off is completed by zeros.
+use Prim.Native.Nat.{ℕ, zero, suc, _+_, _*_}
+use mathlib.Core.List.{List}
+use lib.ListN.{length, getD}
+use Rattle.units.specs.Counts.{symbolsIn}
+
+-- the number that `size` bytes make, low byte first, from `at` on; past the end they are zeros
+unfoldable pub lowFirst : ℕ → List ℕ → ℕ → ℕ
+lowFirst zero bytes at = 0
+lowFirst (suc size) bytes at = getD bytes at 0 + 256 * lowFirst size bytes (suc at)
+
+-- symbol i, counted from 0
+unfoldable pub symbol : ℕ → List ℕ → ℕ → ℕ
+symbol size bytes i = lowFirst size bytes (i * size)
+
+-- how many there are
+abbrev pub symbols : ℕ → List ℕ → ℕ
+symbols size bytes = symbolsIn size (length bytes)

@@ -1,0 +1,206 @@
+// The algebraic signature of an object: signing it, joining the signatures of its two parts, and editing a signature where bytes were replaced.
+ghost use mathlib.Core.Path.{_≡_};
+ghost use Prim.Native.Nat.{_+_, _*_, _<_};
+ghost use lib.ListN.{length, getD};
+ghost use Rattle.units.specs.Sizes.{objectAllowed};
+ghost use Rattle.field.specs.Field.{GF16, α, _⊕_};
+ghost use Rattle.field.specs.Field.{product as Field·product, power as Field·power};
+ghost use Rattle.signature.specs.Objects.{symbol as Object·symbol, symbols as Object·symbols};
+ghost use Rattle.signature.specs.Signatures.{signature as Object·signature, joined, handed, answered, upTo};
+ghost use Rattle.signature.specs.Operations.{signing, joining, editing};
+use units::Bytes;
+use units::Refusal;
+use units::Symbols;
+
+// n and four components. Those above n are ignored on entry, and zero in every answer.
+pub struct Signature {
+    pub n: usize,
+    pub s1: u16,
+    pub s2: u16,
+    pub s3: u16,
+    pub s4: u16,
+}
+
+pub enum Answer {
+    Signed(Signature),
+    Refused(Refusal),
+}
+
+pub fn sign(n: usize, object: &[u8]) -> Answer
+    ensures { λ r. ⌜ r ≡ signing n (now (object .entry)) ⌝ }
+{
+    if !units::n_allowed(n) {
+        return refused(Refusal::SIZE);
+    }
+    if !units::object_allowed(symbols_in(object)) {
+        return refused(Refusal::LONG);
+    }
+    Answer::Signed(own(n, object))
+}
+
+// The first part has a symbols, the second b.
+pub fn join(one: Signature, a: Symbols, two: Signature, b: Symbols) -> Answer
+    ensures { λ r. ⌜ r ≡ joining one (a .count) two (b .count) ⌝ }
+{
+    if !units::n_allowed(one.n) {
+        return refused(Refusal::SIZE);
+    }
+    if !units::n_allowed(two.n) {
+        return refused(Refusal::SIZE);
+    }
+    if !fits(a, b) {
+        return refused(Refusal::LONG);
+    }
+    if one.n != two.n {
+        return refused(Refusal::MATCH);
+    }
+    Answer::Signed(added_at(one, a, two))
+}
+
+// From symbol r on, the old bytes are replaced by the new ones.
+pub fn edit(s: Signature, r: Symbols, old: &[u8], new: &[u8]) -> Answer
+    ensures { λ answer. ⌜ answer ≡ editing s (r .count) (now (old .entry)) (now (new .entry)) ⌝ }
+{
+    if !units::n_allowed(s.n) {
+        return refused(Refusal::SIZE);
+    }
+    if !fits(r, symbols_in(old)) {
+        return refused(Refusal::LONG);
+    }
+    if old.len() % 2 != 0 {
+        return refused(Refusal::ODD);
+    }
+    if new.len() % 2 != 0 {
+        return refused(Refusal::ODD);
+    }
+    if old.len() != new.len() {
+        return refused(Refusal::MATCH);
+    }
+    Answer::Signed(added_at(s, r, change(s.n, old, new)))
+}
+
+// Every refusal of this crate has the value 0.
+fn refused(number: u32) -> Answer
+    ensures { λ r. ⌜ r ≡ Answer.Refused (record { number = number; value = 0 }) ⌝ }
+{
+    Answer::Refused(Refusal { number, value: 0 })
+}
+
+fn symbols_in(object: &[u8]) -> Symbols
+    ensures { λ r. ⌜ r .count ≡ Object·symbols 2 (now (object .entry)) ⌝ }
+{
+    units::symbols_of(Bytes {
+        count: object.len(),
+    })
+}
+
+// Whether a symbols and b more are within the limit. Their sum might not fit a word.
+fn fits(a: Symbols, b: Symbols) -> bool
+    ensures { λ r. ⌜ r ≡ objectAllowed (a .count + b .count) ⌝ }
+{
+    if a.count > units::OBJECT_SYMBOLS_MOST {
+        return false;
+    }
+    b.count <= units::OBJECT_SYMBOLS_MOST - a.count
+}
+
+// An object's own signature.
+fn own(n: usize, object: &[u8]) -> Signature
+    ensures { λ r. ⌜ r ≡ answered n (Object·signature GF16 2 (now (object .entry))) ⌝ }
+{
+    Signature {
+        n,
+        s1: component_up_to(n, 1, object),
+        s2: component_up_to(n, 2, object),
+        s3: component_up_to(n, 3, object),
+        s4: component_up_to(n, 4, object),
+    }
+}
+
+fn component_up_to(n: usize, j: usize, object: &[u8]) -> u16
+    ensures { λ r. ⌜ r ≡ upTo n j (Object·signature GF16 2 (now (object .entry)) j) ⌝ }
+{
+    if n < j { 0 } else { component(j, object) }
+}
+
+// The sum of two objects' own signatures.
+fn change(n: usize, old: &[u8], new: &[u8]) -> Signature
+    ensures { λ r. ⌜ r ≡ answered n (λ j. Object·signature GF16 2 (now (old .entry)) j ⊕ Object·signature GF16 2 (now (new .entry)) j) ⌝ }
+{
+    let x = own(n, old);
+    let y = own(n, new);
+    Signature {
+        n,
+        s1: field::sum(x.s1, y.s1),
+        s2: field::sum(x.s2, y.s2),
+        s3: field::sum(x.s3, y.s3),
+        s4: field::sum(x.s4, y.s4),
+    }
+}
+
+// The signature s, and t moved up to symbol `at` added to it.
+fn added_at(s: Signature, at: Symbols, t: Signature) -> Signature
+    ensures { λ r. ⌜ r ≡ answered (s .n) (joined GF16 (handed s) (at .count) (handed t)) ⌝ }
+{
+    Signature {
+        n: s.n,
+        s1: component_added(s.n, 1, s.s1, at, t.s1),
+        s2: component_added(s.n, 2, s.s2, at, t.s2),
+        s3: component_added(s.n, 3, s.s3, at, t.s3),
+        s4: component_added(s.n, 4, s.s4, at, t.s4),
+    }
+}
+
+fn component_added(n: usize, j: usize, x: u16, at: Symbols, y: u16) -> u16
+    ensures { λ r. ⌜ r ≡ upTo n j (x ⊕ Field·product GF16 y (Field·power GF16 α (j * at .count))) ⌝ }
+{
+    if n < j {
+        0
+    } else {
+        field::sum(x, field::times_power(y, units::exponent_of(j, at)))
+    }
+}
+
+// Horner's rule, from the last symbol down: what stands behind a symbol is moved by one.
+fn component(j: usize, object: &[u8]) -> u16
+    ensures { λ r. ⌜ r ≡ Object·signature GF16 2 (now (object .entry)) j ⌝ }
+{
+    let mut s: u16 = 0;
+    let mut i = units::symbols_of(Bytes {
+        count: object.len(),
+    }).count;
+    while i > 0 {
+        i -= 1;
+        s = field::sum(symbol(object, i), doubled(j, s));
+    }
+    s
+}
+
+// s · α^j
+fn doubled(j: usize, s: u16) -> u16
+    ensures { λ r. ⌜ r ≡ Field·product GF16 s (Field·power GF16 α j) ⌝ }
+{
+    let mut r = s;
+    let mut left = j;
+    while left > 0 {
+        r = field::double(r);
+        left -= 1;
+    }
+    r
+}
+
+fn symbol(object: &[u8], i: usize) -> u16
+    requires { ⌜ i * 2 < length (now object) ⌝ }
+    ensures { λ r. ⌜ r ≡ Object·symbol 2 (now (object .entry)) i ⌝ }
+{
+    let low = byte(object, i * 2) as u16;
+    let high = byte(object, i * 2 + 1) as u16;
+    low + high * 256
+}
+
+// The byte at a place, and zero past the end.
+fn byte(object: &[u8], at: usize) -> u8
+    ensures { λ r. ⌜ r ≡ getD (now (object .entry)) at 0 ⌝ }
+{
+    if at < object.len() { object[at] } else { 0 }
+}
