@@ -9,16 +9,15 @@ use native.Mathlib.Decide.{decLe, ℕ-discrete}
 use native.Mathlib.Omega.{arith}
 use lib.Pow.{pow-lt}
 use Rattle.field.specs.Field.{Field, Element, product, power, α, order}
-use Rattle.field.proofs.Additive.{at-zero}
-use Rattle.field.proofs.Reducing.{sum-product}
+use Rattle.field.proofs.Reducing.{zero-product}
 use Rattle.field.proofs.Products.{product-comm, product-assoc, one-product}
-use Rattle.field.proofs.Powers.{product-zero, α-element, power-zero, power-element, power-add, power-mul, power-one}
+use Rattle.field.proofs.Powers.{product-zero, α-element, α-power, power-zero, power-add, power-mul, power-one}
 use Rattle.field.proofs.Pigeonhole.{onto}
 use Rattle.field.proofs.Tests.{Passes, formed, α-returns, α-divisor}
 
 module _ (F : Field) (good : Passes F) where
   a-power : (k : ℕ) → Element F (power F α k)
-  a-power k = power-element F (formed F good) k (α-element F (formed F good))
+  a-power k = α-power F (formed F good) k
 
   together : (i j : ℕ) → power F α (i + j) ≡ product F (power F α i) (power F α j)
   together i j = power-add F (formed F good) i j (α-element F (formed F good))
@@ -86,14 +85,11 @@ module _ (F : Field) (good : Passes F) where
   powers-distinct i j hi hj e =
       dite (decLe i j) (λ h. apart-below i j h hj e) (λ n. sym (apart-below j i (omega arith) hi (sym e)))
 
-  zero-product : (b : ℕ) → product F 0 b ≡ 0
-  zero-product b = at-zero (λ a. product F a b) (sum-product F b)
-
   pub power-not-zero : (k : ℕ) → power F α k ≢ 0
   power-not-zero k e =
       let whole : product F (power F α (k % order F)) (power F α (order F - k % order F)) ≡ 1 = undone (k % order F) (le-of-lt (mod-lt k order-pos)) in
       let none : product F (power F α (k % order F)) (power F α (order F - k % order F)) ≡ 0 =
-      ap (λ (x : ℕ). product F x (power F α (order F - k % order F))) (sym (power-mod k) ∙ e) ∙ zero-product (power F α (order F - k % order F)) in
+      ap (λ (x : ℕ). product F x (power F α (order F - k % order F))) (sym (power-mod k) ∙ e) ∙ zero-product F (power F α (order F - k % order F)) in
       omega arith
 
   power-pos : (k : ℕ) → 0 < power F α k

@@ -45,6 +45,9 @@ module _ (F : Field) (formed : Formed F) where
   power-element zero h = one-element F formed
   power-element {a} (suc k) h = product-element F formed a (power-element k h)
 
+  pub α-power : (k : ℕ) → Element F (power F α k)
+  α-power k = power-element k α-element
+
   pub power-add : {a : ℕ} (i j : ℕ) → Element F a → power F a (i + j) ≡ product F (power F a i) (power F a j)
   unfolding power
   power-add {a} i zero h = ap (power F a) (add-zero i) ∙ sym (product-one F formed (power-element i h))
@@ -126,7 +129,7 @@ module _ (F : Field) (formed : Formed F) where
   power-doubled k {r} hr =
       product-doubled F formed (power F α k) hr
       ∙ sym (product-two F formed (product-element F formed (power F α k) hr))
-      ∙ product-assoc F formed hr (power-element k α-element) α-element
+      ∙ product-assoc F formed hr (α-power k) α-element
 
   pub power-halves : (e : ℕ) {r s : ℕ} → Element F r → Element F s
       → product F r (power F s e) ≡ product F (product F r (power F s (e % 2))) (power F (product F s s) (e / 2))

@@ -62,6 +62,9 @@ module _ (F : Field) where
   sum-product c a b =
       ap (reduced F (F .width)) (sum-expanded (F .width) a b c) ∙ reduced-sum (F .width) (expanded (F .width) a c) (expanded (F .width) b c)
 
+  pub zero-product : (b : ℕ) → product F 0 b ≡ 0
+  zero-product b = at-zero (λ a. product F a b) (sum-product b)
+
   pub reduced-below : (k : ℕ) {u : ℕ} → u < 2 ^ F .width → reduced F k u ≡ u
   unfolding reduced
   reduced-below zero h = refl

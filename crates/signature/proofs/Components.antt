@@ -6,11 +6,11 @@ use native.Mathlib.Nat.{add-mul, mul-comm, mul-one, zero-mul, add-comm, add-zero
 use native.Mathlib.Omega.{arith}
 use Rattle.field.specs.Field.{Field, Element, _⊕_, product, power, α}
 use Rattle.field.proofs.Sums.{zero-sum}
-use Rattle.field.proofs.Reducing.{product-sum, sum-product}
+use Rattle.field.proofs.Reducing.{sum-product, zero-product}
 use Rattle.field.proofs.Products.{Formed, product-assoc, product-one}
-use Rattle.field.proofs.Powers.{α-element, power-zero, power-element, power-add}
+use Rattle.field.proofs.Powers.{α-element, α-power, power-zero, power-add}
 use Rattle.signature.specs.Signatures.{total, component, joined}
-use Rattle.signature.proofs.Totals.{total-same, total-sum, total-parts, total-image}
+use Rattle.signature.proofs.Totals.{total-same, total-sum, total-parts, total-image, total-nothing}
 
 module _ (F : Field) where
   -- every symbol is an element
@@ -27,21 +27,23 @@ module _ (F : Field) where
       total-same m _ _ (λ i h. sum-product F (power F α (i * j)) (p i) (q i))
       ∙ total-sum m (λ i. product F (p i) (power F α (i * j))) (λ i. product F (q i) (power F α (i * j)))
 
+  pub component-nothing : (m : ℕ) (p : ℕ → ℕ) (j : ℕ) → ((i : ℕ) → i < m → p i ≡ 0) → component F m p j ≡ 0
+  unfolding component
+  component-nothing m p j e =
+      total-nothing m _ (λ i h. ap (λ (x : ℕ). product F x (power F α (i * j))) (e i h) ∙ zero-product F (power F α (i * j)))
+
   -- what stands from position i on, of m symbols
   unfoldable pub from : ℕ → (ℕ → ℕ) → ℕ → ℕ → ℕ
   from m p j i = component F (m - i) (λ k. p (i + k)) j
 
   module _ (formed : Formed F) where
-    a-power : (k : ℕ) → Element F (power F α k)
-    a-power k = power-element F formed k (α-element F formed)
-
     -- a symbol moved up by a positions
     moved : (a i j : ℕ) {x : ℕ} → Element F x
         → product F x (power F α ((a + i) * j)) ≡ product F (product F x (power F α (i * j))) (power F α (j * a))
     moved a i j {x} h =
         ap (λ (e : ℕ). product F x (power F α e)) (ap (λ (n : ℕ). n * j) (add-comm a i) ∙ add-mul i a j ∙ ap (λ (n : ℕ). i * j + n) (mul-comm a j))
         ∙ ap (product F x) (power-add F formed (i * j) (j * a) (α-element F formed))
-        ∙ sym (product-assoc F formed h (a-power (i * j)) (a-power (j * a)))
+        ∙ sym (product-assoc F formed h (α-power F formed (i * j)) (α-power F formed (j * a)))
 
     pub component-parts : (a b : ℕ) (p : ℕ → ℕ) (j : ℕ) → ((i : ℕ) → i < b → Element F (p (a + i)))
         → component F (a + b) p j ≡ joined F (component F a p) a (component F b (λ i. p (a + i))) j

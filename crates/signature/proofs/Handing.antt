@@ -1,12 +1,19 @@
 -- Signatures as they are handed over: components above n change nothing.
 -- Assumes nothing.
-use mathlib.Core.Path.{_≡_, refl}
+use mathlib.Core.Path.{_≡_, refl, sym, ap, _∙_}
 use mathlib.Core.Bool.{Bool, true, false, cond}
-use Prim.Native.Nat.{ℕ}
+use Prim.Native.Nat.{ℕ, zero, suc, _≤_, _<_}
+use native.Mathlib.Nat.{not-suc-le-zero, le-trans}
+use native.Mathlib.Omega.{arith}
 use lib.Dec.{leb}
+use borrow.Author.Tests.{le-leb}
 use Rattle.field.specs.Field.{_⊕_}
 use Rattle.field.proofs.Sums.{zero-sum}
 use Rattle.signature.specs.Signatures.{handed, upTo, answered}
+use Rattle.signature.specs.declared.Signature.{Signature}
+
+pub answered-same : (n : ℕ) (s t : ℕ → ℕ) → ((j : ℕ) → s j ≡ t j) → answered n s ≡ answered n t
+answered-same n s t e = cc (e 1, e 2, e 3, e 4)
 
 cond-sum : (b : Bool) (x y : ℕ) → cond b x 0 ⊕ cond b y 0 ≡ cond b (x ⊕ y) 0
 cond-sum true x y = refl
@@ -26,3 +33,18 @@ up-to-again n j f x = cond-again (leb j n) f x
 pub answered-handed : (n : ℕ) (f : ℕ → ℕ → ℕ) (s : ℕ → ℕ) → answered n (λ j. f j (handed (answered n s) j)) ≡ answered n (λ j. f j (s j))
 answered-handed n f s =
     cc (up-to-again n 1 (f 1) (s 1), up-to-again n 2 (f 2) (s 2), up-to-again n 3 (f 3) (s 3), up-to-again n 4 (f 4) (s 4))
+
+handed-answered : (n : ℕ) (s : ℕ → ℕ) (j : ℕ) → 0 < j → j ≤ 4 → handed (answered n s) j ≡ upTo n j (s j)
+handed-answered n s zero h l = absurd (not-suc-le-zero h)
+handed-answered n s (suc zero) h l = refl
+handed-answered n s (suc (suc zero)) h l = refl
+handed-answered n s (suc (suc (suc zero))) h l = refl
+handed-answered n s (suc (suc (suc (suc zero)))) h l = refl
+handed-answered n s (suc (suc (suc (suc (suc j))))) h l = absurd (omega arith)
+
+-- an answer tells its components up to n
+pub answered-tells : (n : ℕ) (s t : ℕ → ℕ) (j : ℕ) → 0 < j → j ≤ n → n ≤ 4 → answered n s ≡ answered n t → s j ≡ t j
+answered-tells n s t j some h four e =
+    let both : upTo n j (s j) ≡ upTo n j (t j) =
+    sym (handed-answered n s j some (le-trans h four)) ∙ ap (λ (x : Signature). handed x j) e ∙ handed-answered n t j some (le-trans h four) in
+    simp (le-leb j n h) at both

@@ -3,3 +3,9 @@ pub mod Totals
 pub mod Components
 pub mod Octets
 pub mod Handing
+pub mod Vanishing
+pub mod Parts
+pub mod Joining
+pub mod Editing
+pub mod Detection
+pub mod Answers

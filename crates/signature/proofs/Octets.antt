@@ -7,11 +7,7 @@ use native.Mathlib.Nat.{pow-suc, mul-comm, zero-lt-suc, lt-of-lt-of-le, mul-le-m
 use native.Mathlib.Omega.{arith}
 use lib.ListN.{getD}
 use Rattle.field.specs.Field.{Field, Element, GF16}
-use Rattle.signature.specs.Objects.{lowFirst, symbol}
-
--- every number of the list is a byte's
-abbrev pub Octets : List ℕ → Type 0
-Octets bytes = (i : ℕ) → getD bytes i 0 < 256
+use Rattle.signature.specs.Objects.{Octets, lowFirst, symbol}
 
 low-first-lt : (size : ℕ) (bytes : List ℕ) (at : ℕ) → Octets bytes → lowFirst size bytes at < 256 ^ size
 unfolding lowFirst

@@ -2,3 +2,5 @@
 pub mod Objects
 pub mod Signatures
 pub mod Operations
+pub mod Differences
+pub mod Edits

@@ -1,8 +1,12 @@
 -- An object is a list of bytes, and its symbols are numbers of `size` bytes each, low byte first. A last symbol that is cut off is completed by zeros.
-use Prim.Native.Nat.{ℕ, zero, suc, _+_, _*_}
+use Prim.Native.Nat.{ℕ, zero, suc, _+_, _*_, _<_}
 use mathlib.Core.List.{List}
 use lib.ListN.{length, getD}
 use Rattle.units.specs.Counts.{symbolsIn}
+
+-- every number of the list is a byte's
+abbrev pub Octets : List ℕ → Type 0
+Octets bytes = (i : ℕ) → getD bytes i 0 < 256
 
 -- the number that `size` bytes make, low byte first, from `at` on; past the end they are zeros
 unfoldable pub lowFirst : ℕ → List ℕ → ℕ → ℕ

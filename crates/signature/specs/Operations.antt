@@ -34,8 +34,12 @@ whole bytes = eqb (length bytes % 2) 0
 abbrev pub signTests : ℕ → List ℕ → List Test
 signTests n object = gives SIZE (not (nAllowed n)) ∷ gives LONG (not (objectAllowed (symbols 2 object))) ∷ []
 
+-- an object's own signature, as it is handed over
+abbrev pub own : ℕ → List ℕ → Signature
+own n object = answered n (signature GF16 2 object)
+
 abbrev pub signing : ℕ → List ℕ → Answer
-signing n object = unless (first (signTests n object)) (answered n (signature GF16 2 object))
+signing n object = unless (first (signTests n object)) (own n object)
 
 -- the first part has a symbols, the second b
 abbrev pub joinTests : Signature → ℕ → Signature → ℕ → List Test

@@ -7,7 +7,7 @@ ghost use Rattle.field.specs.Field.{GF16, α, _⊕_};
 ghost use Rattle.field.specs.Field.{product as Field·product, power as Field·power};
 ghost use Rattle.signature.specs.Objects.{symbol as Object·symbol, symbols as Object·symbols};
 ghost use Rattle.signature.specs.Signatures.{signature as Object·signature, joined, handed, answered, upTo};
-ghost use Rattle.signature.specs.Operations.{signing, joining, editing};
+ghost use Rattle.signature.specs.Operations.{own as Object·own, signing, joining, editing};
 use units::Bytes;
 use units::Refusal;
 use units::Symbols;
@@ -106,7 +106,7 @@ fn fits(a: Symbols, b: Symbols) -> bool
 
 // An object's own signature.
 fn own(n: usize, object: &[u8]) -> Signature
-    ensures { λ r. ⌜ r ≡ answered n (Object·signature GF16 2 (now (object .entry))) ⌝ }
+    ensures { λ r. ⌜ r ≡ Object·own n (now (object .entry)) ⌝ }
 {
     Signature {
         n,
