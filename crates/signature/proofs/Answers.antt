@@ -2,7 +2,7 @@
 -- Assumes nothing.
 use mathlib.Core.Path.{_≡_, refl, sym, ap, ap₂, _∙_}
 use mathlib.Core.Logic.{_≢_, _↔_}
-use mathlib.Core.Bool.{Bool, true, false, not, _&&_}
+use mathlib.Core.Bool.{true, and-self}
 use mathlib.Core.List.{List, _++_}
 use Prim.Native.Nat.{ℕ, _+_, _*_, _/_, _%_, _^_, _≤_, _<_}
 use native.Mathlib.Nat.{le-trans, le-refl, div-add-mod', add-zero, zero-lt-suc}
@@ -70,10 +70,6 @@ edit-refused s r old new =
 
 -- ---- a join of two parts, an edit of a page
 
-both : (b : Bool) → b && b ≡ b
-both true = refl
-both false = refl
-
 pub join-of-parts : (n : ℕ) (one two : List ℕ) → Octets two → length one % 2 ≡ 0
     → joining (own n one) (symbols 2 one) (own n two) (symbols 2 two) ≡ signing n (one ++ two)
 join-of-parts n one two octets even = ap₂ unless verdicts signatures
@@ -82,7 +78,7 @@ join-of-parts n one two octets even = ap₂ unless verdicts signatures
     even-symbols = omega arith
 
     verdicts : first (joinTests (own n one) (symbols 2 one) (own n two) (symbols 2 two)) ≡ first (signTests n (one ++ two))
-    verdicts = simp (both (nAllowed n), eq-eqb n n refl, symbols-parts 2 (zero-lt-suc 1) one two (symbols 2 one) even-symbols)
+    verdicts = simp (and-self (nAllowed n), eq-eqb n n refl, symbols-parts 2 (zero-lt-suc 1) one two (symbols 2 one) even-symbols)
 
     signatures : answered n (joined GF16 (handed (own n one)) (symbols 2 one) (handed (own n two))) ≡ own n (one ++ two)
     signatures =

@@ -1,0 +1,2 @@
+-- The one theorem over the table.
+pub mod Starred

@@ -1,0 +1,13 @@
+-- Every row of the table gives what it says: both columns compute to the same list.
+-- Assumes nothing.
+use mathlib.Core.Path.{_≡_, refl}
+use mathlib.Core.List.{List, map}
+use Prim.Native.Nat.{ℕ}
+use Rattle.field.specs.Field.{_⊕_, digit, expanded, reduced, product, power}
+use Rattle.signature.specs.Objects.{lowFirst, symbol}
+use Rattle.signature.specs.Signatures.{total, component}
+use Rattle.starred.specs.Table.{Row, rows}
+
+pub starred : map (λ (r : Row). r .gives) rows ≡ map (λ (r : Row). r .says) rows
+unfolding total component symbol lowFirst product reduced expanded digit power _⊕_
+starred = refl

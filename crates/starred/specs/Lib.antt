@@ -1,0 +1,2 @@
+-- The one table of the scope's starred numbers.
+pub mod Table

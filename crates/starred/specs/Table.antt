@@ -1,0 +1,46 @@
+-- The scope's starred numbers, a row each: what the definitions give, and what the scope says.
+use Prim.Native.Nat.{ℕ, _/_, _%_}
+use mathlib.Core.List.{List, [], _∷_}
+use lib.ListN.{take}
+use Rattle.signature.specs.declared.Answer.{Answer}
+use Rattle.signature.specs.declared.Answer.the-variants.{Signed, Refused}
+use Rattle.signature.specs.Operations.{own, signing, joining, editing}
+
+pub record Row : Type 0 where
+  pub number : ℕ
+  pub gives : List ℕ
+  pub says : List ℕ
+
+abbrev pub case : ℕ → List ℕ → List ℕ → Row
+case number gives says = record { number = number; gives = gives; says = says }
+
+-- symbols as bytes, low byte first
+abbrev pub bytes : List ℕ → List ℕ
+bytes [] = []
+bytes (s ∷ rest) = s % 256 ∷ s / 256 ∷ bytes rest
+
+-- the components that were answered; a refusal has none
+abbrev pub components : Answer → List ℕ
+components (Signed s) = take (s .n) (s .s1 ∷ s .s2 ∷ s .s3 ∷ s .s4 ∷ [])
+components (Refused r) = []
+
+abbrev pub signed : ℕ → List ℕ → List ℕ
+signed n symbols = components (signing n (bytes symbols))
+
+abbrev pub rows : List Row
+rows =
+    case 1 (signed 2 []) (0 ∷ 0 ∷ [])
+    ∷ case 2 (signed 2 (1 ∷ 2 ∷ [])) (5 ∷ 9 ∷ [])
+    ∷ case 3 (signed 2 (0 ∷ 0x8000 ∷ [])) (0x100B ∷ 0x2016 ∷ [])
+    ∷ case 4 (components (signing 2 (0x41 ∷ []))) (0x41 ∷ 0x41 ∷ [])
+    ∷ case 4 (components (signing 2 (0x41 ∷ 0x00 ∷ []))) (0x41 ∷ 0x41 ∷ [])
+    ∷ case 5 (signed 1 (2 ∷ 0 ∷ [])) (2 ∷ [])
+    ∷ case 5 (signed 1 (0 ∷ 1 ∷ [])) (2 ∷ [])
+    ∷ case 5 (signed 2 (2 ∷ 0 ∷ [])) (2 ∷ 2 ∷ [])
+    ∷ case 5 (signed 2 (0 ∷ 1 ∷ [])) (2 ∷ 4 ∷ [])
+    ∷ case 6 (signed 2 (8 ∷ 6 ∷ 1 ∷ [])) (0 ∷ 0 ∷ [])
+    ∷ case 6 (signed 2 (0 ∷ 0 ∷ 0 ∷ [])) (0 ∷ 0 ∷ [])
+    ∷ case 6 (signed 3 (8 ∷ 6 ∷ 1 ∷ [])) (0 ∷ 0 ∷ 0x78 ∷ [])
+    ∷ case 7 (components (joining (own 2 (bytes (1 ∷ []))) 1 (own 2 (bytes (2 ∷ []))) 1)) (5 ∷ 9 ∷ [])
+    ∷ case 8 (components (editing (own 2 (bytes (1 ∷ 2 ∷ []))) 1 (bytes (2 ∷ [])) (bytes (3 ∷ [])))) (7 ∷ 0xD ∷ [])
+    ∷ []
