@@ -1,192 +1,166 @@
-// Runs worked numbers through the library, a line each. The file `stdout` beside this has what they should be: the scope's own figures,
-// the constants of the PAR2 specification, and products taken by logarithms.
+// Runs the scope's cases and the edges of its limits, a line each: the answer is n and four components, or a refusal's number and value.
+// The file `stdout` beside this has what they should be: the scope's own figures, and for the rest those of a program with tables of logarithms.
 use libc::STDOUT_FILENO;
-use units::Bytes;
+use signature::Answer;
+use signature::Signature;
 use units::Refusal;
 use units::Symbols;
 
 fn main() {
-    sizes();
-    refusals();
-    products();
-    powers();
-    order();
+    signed();
+    joined();
+    edited();
 }
 
-fn sizes() {
-    text(b"sizes\n");
-    n(0);
-    n(1);
-    n(4);
-    n(5);
-    page(0);
-    page(1);
-    page(2);
-    page(3);
-    page(65_536);
-    page(65_538);
-    object(131_068);
-    object(131_069);
-    bucket(16_777_216, 4_096);
-    bucket(16_777_217, 1);
-    bucket(8_192, 4_096);
-    bucket(8_193, 4_097);
-    caption(65_535);
-    caption(65_536);
-    caption(65_537);
+fn signed() {
+    text(b"signed\n");
+    cases_1_to_4();
+    case_5();
+    case_6();
+    others();
+    limits();
 }
 
-fn n(n: usize) {
-    text(b"n ");
-    number(n);
-    allowed(units::n_allowed(n));
+fn cases_1_to_4() {
+    sign(b"case 1, no symbols", 2, b"");
+    sign(b"case 2, 0001 0002", 2, b"\x01\x00\x02\x00");
+    sign(b"case 3, 0000 8000", 2, b"\x00\x00\x00\x80");
+    sign(b"case 4, byte 41", 2, b"\x41");
+    sign(b"case 4, bytes 41 00", 2, b"\x41\x00");
 }
 
-fn page(bytes: usize) {
-    text(b"page of ");
-    number(bytes);
-    text(b" bytes");
-    allowed(units::page_allowed(Bytes { count: bytes }));
+fn case_5() {
+    sign(b"case 5, 0002 0000", 1, b"\x02\x00\x00\x00");
+    sign(b"case 5, 0000 0001", 1, b"\x00\x00\x01\x00");
+    sign(b"case 5, 0002 0000", 2, b"\x02\x00\x00\x00");
+    sign(b"case 5, 0000 0001", 2, b"\x00\x00\x01\x00");
 }
 
-fn object(bytes: usize) {
-    text(b"object of ");
-    let symbols = counted(bytes);
-    allowed(units::object_allowed(symbols));
+fn case_6() {
+    sign(b"case 6, 0008 0006 0001", 2, b"\x08\x00\x06\x00\x01\x00");
+    sign(b"case 6, 0000 0000 0000", 2, b"\x00\x00\x00\x00\x00\x00");
+    sign(b"case 6, 0008 0006 0001", 3, b"\x08\x00\x06\x00\x01\x00");
 }
 
-fn bucket(bytes: usize, pages: usize) {
-    text(b"bucket of ");
-    number(bytes);
-    text(b" bytes, ");
-    number(pages);
-    text(b" pages");
-    allowed(units::bucket_allowed(Bytes { count: bytes }, pages));
+fn others() {
+    sign(
+        b"a sentence",
+        4,
+        b"Deaf callers sign and read through a relay.",
+    );
+    sign(b"n 0", 0, b"");
+    sign(b"n 5", 5, b"");
 }
 
-fn caption(bytes: usize) {
-    text(b"caption of ");
-    let symbols = counted(bytes);
-    allowed(units::caption_allowed(symbols));
+fn limits() {
+    let long = [0x5A; 131_069];
+    sign(b"131068 bytes of 5A", 4, &long[..131_068]);
+    sign(b"131069 bytes of 5A", 4, &long);
 }
 
-fn counted(bytes: usize) -> Symbols {
-    let symbols = units::symbols_of(Bytes { count: bytes });
-    number(bytes);
-    text(b" bytes, ");
-    number(symbols.count);
-    text(b" symbols");
-    symbols
+fn sign(what: &[u8], n: usize, object: &[u8]) {
+    text(what);
+    answer(signature::sign(n, object));
 }
 
-fn allowed(yes: bool) {
-    if yes {
-        text(b": allowed\n");
-    } else {
-        text(b": not allowed\n");
+fn joined() {
+    text(b"joined\n");
+    let one = own(2, b"\x01\x00");
+    let two = own(2, b"\x02\x00");
+    join(b"case 7, 0001 and 0002", one, 1, two, 1);
+    join(b"65534 symbols and none", one, 65_534, two, 0);
+    join(b"65534 symbols and one", one, 65_534, two, 1);
+    join(
+        b"as many symbols as a word holds, and two",
+        one,
+        0xFFFF_FFFF_FFFF_FFFF,
+        two,
+        2,
+    );
+    join(b"n 2 and 1", one, 1, own(1, b""), 1);
+    join(b"n 2 and 0", one, 65_535, own(0, b""), 1);
+}
+
+fn join(what: &[u8], one: Signature, a: usize, two: Signature, b: usize) {
+    text(what);
+    answer(signature::join(one, Symbols { count: a }, two, Symbols { count: b }));
+}
+
+fn edited() {
+    text(b"edited\n");
+    let s = own(2, b"\x01\x00\x02\x00");
+    edit(b"case 8, 0002 at 1 to 0003", s, 1, b"\x02\x00", b"\x03\x00");
+    edit(b"nothing at 65534", s, 65_534, b"", b"");
+    edit(b"nothing at 65535", s, 65_535, b"", b"");
+    edit(b"an odd old piece", s, 1, b"\x02", b"\x03\x00");
+    edit(b"an odd new piece", s, 1, b"\x02\x00", b"\x03\x00\x04");
+    edit(
+        b"pieces of 2 and 4 bytes",
+        s,
+        1,
+        b"\x02\x00",
+        b"\x03\x00\x04\x00",
+    );
+    let junk = Signature {
+        n: 1,
+        s1: 5,
+        s2: 0xFFFF,
+        s3: 0xFFFF,
+        s4: 0xFFFF,
+    };
+    edit(b"n 1 with junk above it", junk, 1, b"\x02\x00", b"\x03\x00");
+}
+
+fn edit(what: &[u8], s: Signature, r: usize, old: &[u8], new: &[u8]) {
+    text(what);
+    answer(signature::edit(s, Symbols { count: r }, old, new));
+}
+
+// An object's own signature, and one of n 0 where sign refuses.
+fn own(n: usize, object: &[u8]) -> Signature {
+    match signature::sign(n, object) {
+        Answer::Signed(s) => s,
+        Answer::Refused(_) => Signature {
+            n: 0,
+            s1: 0,
+            s2: 0,
+            s3: 0,
+            s4: 0,
+        },
     }
 }
 
-fn refusals() {
-    text(b"refusals\n");
-    refusal(b"SIZE", Refusal::SIZE);
-    refusal(b"PAGE", Refusal::PAGE);
-    refusal(b"LONG", Refusal::LONG);
-    refusal(b"ODD", Refusal::ODD);
-    refusal(b"MAP", Refusal::MAP);
-    refusal(b"MATCH", Refusal::MATCH);
-    refusal(b"ROOM", Refusal::ROOM);
-    refusal(b"EMPTY", Refusal::EMPTY);
-    refusal(b"PAGENO", Refusal::PAGENO);
-    refusal(b"DAMAGED", Refusal::DAMAGED);
+fn answer(a: Answer) {
+    match a {
+        Answer::Signed(s) => components(s),
+        Answer::Refused(r) => refused(r),
+    }
 }
 
-fn refusal(name: &[u8], number: u32) {
-    io::print_decimal(STDOUT_FILENO, number as u64);
+fn components(s: Signature) {
+    text(b": n ");
+    io::print_decimal(STDOUT_FILENO, s.n as u64);
+    text(b",");
+    component(s.s1);
+    component(s.s2);
+    component(s.s3);
+    component(s.s4);
+    text(b"\n");
+}
+
+fn component(s: u16) {
     text(b" ");
-    text(name);
+    io::print_hex(STDOUT_FILENO, s as u64, 4);
+}
+
+fn refused(r: Refusal) {
+    text(b": refused ");
+    io::print_decimal(STDOUT_FILENO, r.number as u64);
+    text(b" ");
+    io::print_decimal(STDOUT_FILENO, r.value as u64);
     text(b"\n");
-}
-
-fn products() {
-    text(b"products\n");
-    product(0x0002, 0x8000);
-    product(0x0002, 0x4000);
-    product(0x8000, 0x8000);
-    product(0x0000, 0x1234);
-    product(0x0001, 0xBEEF);
-    product(0x1234, 0x5678);
-    product(0xCAFE, 0xF00D);
-    product(0xFFFF, 0xFFFF);
-    product(0x8805, 0x0002);
-}
-
-fn product(a: u16, b: u16) {
-    symbol(a);
-    text(b" * ");
-    symbol(b);
-    text(b" = ");
-    symbol(field::product(a, b));
-    text(b"\n");
-}
-
-// The exponents from 1 to 22 are those of the first constants that the PAR2 specification lists.
-fn powers() {
-    text(b"powers\n");
-    power(1, 1);
-    power(1, 2);
-    power(1, 4);
-    power(1, 7);
-    power(1, 8);
-    power(1, 11);
-    power(1, 13);
-    power(1, 14);
-    power(1, 16);
-    power(1, 19);
-    power(1, 22);
-    power(1, 65_534);
-    power(1, 65_535);
-    power(4, 65_534);
-    power(3, 21_845);
-    power(1, 21_845);
-}
-
-fn power(component: usize, position: usize) {
-    let e = units::exponent_of(component, Symbols { count: position });
-    text(b"alpha^(");
-    number(component);
-    text(b" * ");
-    number(position);
-    text(b") = ");
-    symbol(field::times_power(1, e));
-    text(b"\n");
-}
-
-fn order() {
-    text(b"alpha is 1 again at its power ");
-    number(return_of_alpha());
-    text(b"\n");
-}
-
-// The first power of α above 0 that is 1; 70,000 where none up to there is.
-fn return_of_alpha() -> usize {
-    let mut k: usize = 1;
-    let mut s: u16 = 2;
-    while s != 1 && k < 70_000 {
-        s = field::double(s);
-        k += 1;
-    }
-    k
 }
 
 fn text(s: &[u8]) {
     io::write_all(STDOUT_FILENO, s);
-}
-
-fn number(n: usize) {
-    io::print_decimal(STDOUT_FILENO, n as u64);
-}
-
-fn symbol(s: u16) {
-    io::print_hex(STDOUT_FILENO, s as u64, 4);
 }

@@ -1,10 +1,10 @@
--- `cases::return_of_alpha` ends: its count stays at most 70,000.
+-- `vectors::return_of_alpha` ends: its count stays at most 70,000.
 -- Assumes nothing.
 use Prim.Native.Nat.{_≤_, _-_}
 use native.Mathlib.Omega.{arith}
 use borrow.Author.Tests.{ltb-true}
-use Rattle.cases.proofs.return_of_alpha.Statement.{statement}
-use Rattle.cases.proofs.return_of_alpha.Tie as tie
+use Rattle.vectors.proofs.return_of_alpha.Statement.{statement}
+use Rattle.vectors.proofs.return_of_alpha.Tie as tie
 
 abbrev Inv-loop : tie.InvT-loop
 Inv-loop k₀ s₀ k s = k ≤ 70000
