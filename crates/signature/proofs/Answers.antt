@@ -1,20 +1,21 @@
 -- What is promised of sign, join and edit, for the answers that their contracts name.
 -- Assumes nothing.
-use mathlib.Core.Path.{_≡_, refl, sym, ap, ap₂, _∙_}
-use mathlib.Core.Logic.{_≢_, _↔_}
+use mathlib.Core.Path.{_≡_, refl, sym, ap₂, _∙_}
+use mathlib.Core.Logic.{_≢_, _↔_, dite}
 use mathlib.Core.Bool.{true, and-self}
-use mathlib.Core.List.{List, _++_}
-use Prim.Native.Nat.{ℕ, _+_, _*_, _/_, _%_, _^_, _≤_, _<_}
-use native.Mathlib.Nat.{le-trans, le-refl, div-add-mod', add-zero, zero-lt-suc}
+use mathlib.Core.List.{List, [], _∷_, _++_}
+use Prim.Native.Nat.{ℕ, _+_, _*_, _%_, _≤_, _<_}
+use native.Mathlib.Nat.{le-refl, zero-lt-suc, pos-of-ne-zero}
+use native.Mathlib.Decide.{ℕ-discrete}
 use native.Mathlib.Omega.{arith}
-use lib.Dec.{T, eqb}
+use lib.Dec.{T}
 use lib.ListN.{length}
-use borrow.Author.Tests.{le-leb, lt-leb, eq-eqb, eqb-true}
+use borrow.Author.Tests.{le-leb, lt-leb, eq-eqb}
 use Rattle.units.specs.declared.Refusal.{Refusal}
 use Rattle.units.specs.declared.Verdict.{Verdict}
 use Rattle.units.specs.declared.Verdict.the-variants as Verdict
-use Rattle.units.specs.Sizes.{nAllowed, objectAllowed}
-use Rattle.units.specs.Refusals.{Test, first, SIZE, LONG, ODD, MATCH}
+use Rattle.units.specs.Sizes.{nAllowed}
+use Rattle.units.specs.Refusals.{Test, first}
 use Rattle.units.proofs.Refusing.{Lowest, ascending, lowest-given}
 use Rattle.field.specs.Field.{GF16, _⊕_, product, power, α}
 use Rattle.field.proofs.Instances.{GF16-passes, GF16-formed}
@@ -30,7 +31,9 @@ use Rattle.signature.proofs.Handing.{answered-same, answered-handed, an
 use Rattle.signature.proofs.Parts.{symbols-parts}
 use Rattle.signature.proofs.Joining.{join-law}
 use Rattle.signature.proofs.Editing.{edit-law}
-use Rattle.signature.proofs.Detection.{Apart, told-apart}
+use Rattle.signature.proofs.Edited.{part-edited, end-edited}
+use Rattle.signature.proofs.Differing.{none-differs}
+use Rattle.signature.proofs.Detection.{told-apart}
 use Rattle.signature.proofs.sign.Reads as sign
 use Rattle.signature.proofs.join.Reads as join
 use Rattle.signature.proofs.edit.Reads as edit
@@ -70,30 +73,27 @@ edit-refused s r old new =
 
 -- ---- a join of two parts, an edit of a page
 
+even-symbols : (bytes : List ℕ) → length bytes % 2 ≡ 0 → length bytes ≡ symbols 2 bytes * 2
+even-symbols bytes even = omega arith
+
 pub join-of-parts : (n : ℕ) (one two : List ℕ) → Octets two → length one % 2 ≡ 0
     → joining (own n one) (symbols 2 one) (own n two) (symbols 2 two) ≡ signing n (one ++ two)
 join-of-parts n one two octets even = ap₂ unless verdicts signatures
   where
-    even-symbols : length one ≡ symbols 2 one * 2
-    even-symbols = omega arith
-
     verdicts : first (joinTests (own n one) (symbols 2 one) (own n two) (symbols 2 two)) ≡ first (signTests n (one ++ two))
-    verdicts = simp (and-self (nAllowed n), eq-eqb n n refl, symbols-parts 2 (zero-lt-suc 1) one two (symbols 2 one) even-symbols)
+    verdicts = simp (and-self (nAllowed n), eq-eqb n n refl, symbols-parts 2 (zero-lt-suc 1) one two (symbols 2 one) (even-symbols one even))
 
     signatures : answered n (joined GF16 (handed (own n one)) (symbols 2 one) (handed (own n two))) ≡ own n (one ++ two)
     signatures =
         answered-handed n (λ j x. x ⊕ product GF16 (handed (own n two) j) (power GF16 α (j * symbols 2 one))) (signature GF16 2 one)
         ∙ answered-handed n (λ j x. signature GF16 2 one j ⊕ product GF16 x (power GF16 α (j * symbols 2 one))) (signature GF16 2 two)
-        ∙ answered-same n _ _ (λ j. sym (join-law GF16 GF16-formed 2 (zero-lt-suc 1) (le-refl 65536) one two (symbols 2 one) even-symbols octets j))
+        ∙ answered-same n _ _ (λ j. sym (join-law GF16 GF16-formed 2 (zero-lt-suc 1) (le-refl 65536) one two (symbols 2 one) (even-symbols one even) octets j))
 
 pub edit-of-page : (n : ℕ) (page after : List ℕ) (r : ℕ) (old new : List ℕ) → Edited 2 page after r old new
     → length old % 2 ≡ 0 → length new ≡ length old → Octets page → Octets after → length page ≤ 131068
     → editing (own n page) r old new ≡ signing n after
 edit-of-page n page after r old new e even equal page-octets after-octets short = ap₂ unless verdicts signatures
   where
-    old-symbols : length old ≡ symbols 2 old * 2
-    old-symbols = omega arith
-
     new-symbols : length new ≡ symbols 2 old * 2
     new-symbols = omega arith
 
@@ -117,7 +117,22 @@ edit-of-page n page after r old new e even equal page-octets after-octets short 
         answered-handed n (λ j x. x ⊕ product GF16 (signature GF16 2 old j ⊕ signature GF16 2 new j) (power GF16 α (j * r))) (signature GF16 2 page)
         ∙ answered-same n _ _
         (λ j.
-        sym (edit-law GF16 GF16-formed 2 (zero-lt-suc 1) (le-refl 65536) page after r old new (symbols 2 old) e old-symbols new-symbols page-octets after-octets j))
+        sym (edit-law GF16 GF16-formed 2 (zero-lt-suc 1) (le-refl 65536) page after r old new (symbols 2 old) e (even-symbols old even) new-symbols page-octets after-octets j))
+
+-- a part in the middle, and an odd last byte
+
+pub edit-of-part : (n : ℕ) (front old new back : List ℕ) → length front % 2 ≡ 0 → length old % 2 ≡ 0 → length new ≡ length old
+    → Octets (front ++ (old ++ back)) → Octets (front ++ (new ++ back)) → length (front ++ (old ++ back)) ≤ 131068
+    → editing (own n (front ++ (old ++ back))) (symbols 2 front) old new ≡ signing n (front ++ (new ++ back))
+edit-of-part n front old new back whole even equal =
+    edit-of-page n (front ++ (old ++ back)) (front ++ (new ++ back)) (symbols 2 front) old new
+    (part-edited front (symbols 2 front) (even-symbols front whole) old new back equal) even equal
+
+pub edit-of-odd-end : (n : ℕ) (front : List ℕ) (x y : ℕ) → length front % 2 ≡ 0 → Octets (front ++ (x ∷ [])) → Octets (front ++ (y ∷ []))
+    → length (front ++ (x ∷ [])) ≤ 131068 → editing (own n (front ++ (x ∷ []))) (symbols 2 front) (x ∷ 0 ∷ []) (y ∷ 0 ∷ []) ≡ signing n (front ++ (y ∷ []))
+edit-of-odd-end n front x y whole =
+    edit-of-page n (front ++ (x ∷ [])) (front ++ (y ∷ [])) (symbols 2 front) (x ∷ 0 ∷ []) (y ∷ 0 ∷ [])
+    (end-edited front (symbols 2 front) (even-symbols front whole) x y) refl refl
 
 -- ---- sure detection
 
@@ -127,6 +142,14 @@ own-apart n h l one other one-octets other-octets lengths short some few e =
     let within : symbols 2 one ≤ 65535 = omega arith in
     let (j, pos, up, apart) = told-apart GF16 GF16-passes 2 (le-refl 65536) one other one-octets other-octets lengths within n some few in
     apart (answered-tells n (signature GF16 2 one) (signature GF16 2 other) j pos up l e)
+
+-- so few changes and one signature leave one object
+pub own-tells : (n : ℕ) → 1 ≤ n → n ≤ 4 → (one other : List ℕ) → Octets one → Octets other → length one ≡ length other → length one ≤ 131068
+    → differing 2 one other ≤ n → own n one ≡ own n other → one ≡ other
+own-tells n h l one other one-octets other-octets lengths short few e =
+    dite (ℕ-discrete (differing 2 one other) 0)
+    (λ (none : differing 2 one other ≡ 0). none-differs 2 (zero-lt-suc 1) one other one-octets other-octets lengths none)
+    (λ (some : differing 2 one other ≢ 0). absurd (own-apart n h l one other one-octets other-octets lengths short (pos-of-ne-zero some) few e))
 
 pub objects-told-apart : (n : ℕ) → 1 ≤ n → n ≤ 4 → (one other : List ℕ) → Octets one → Octets other → length one ≡ length other → length one ≤ 131068
     → 1 ≤ differing 2 one other → differing 2 one other ≤ n → signing n one ≢ signing n other

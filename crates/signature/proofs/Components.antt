@@ -1,7 +1,7 @@
 -- A component of two parts end to end. Horner's rule is the case in which the first part is one symbol.
 -- Assumes nothing.
-use mathlib.Core.Path.{_≡_, refl, sym, ap, ap₂, _∙_}
-use Prim.Native.Nat.{ℕ, zero, suc, _+_, _-_, _*_, _<_}
+use mathlib.Core.Path.{_≡_, sym, ap, ap₂, _∙_}
+use Prim.Native.Nat.{ℕ, suc, _+_, _-_, _*_, _<_}
 use native.Mathlib.Nat.{add-mul, mul-comm, mul-one, zero-mul, add-comm, add-zero, zero-add, sub-self, sub-zero}
 use native.Mathlib.Omega.{arith}
 use Rattle.field.specs.Field.{Field, Element, _⊕_, product, power, α}
@@ -14,8 +14,8 @@ use Rattle.signature.proofs.Totals.{total-same, total-sum, total-parts,
 
 module _ (F : Field) where
   -- every symbol is an element
-  abbrev pub Symbols : (ℕ → ℕ) → Type 0
-  Symbols p = (i : ℕ) → Element F (p i)
+  abbrev pub Elements : (ℕ → ℕ) → Type 0
+  Elements p = (i : ℕ) → Element F (p i)
 
   pub component-same : (m : ℕ) (p q : ℕ → ℕ) (j : ℕ) → ((i : ℕ) → i < m → p i ≡ q i) → component F m p j ≡ component F m q j
   unfolding component
@@ -72,7 +72,7 @@ module _ (F : Field) where
     unfolding from
     from-start m p j = ap (λ (c : ℕ). component F c (λ k. p (0 + k)) j) (sub-zero m) ∙ component-same m (λ k. p (0 + k)) p j (λ i h. ap p (zero-add i))
 
-    pub from-turn : (m : ℕ) (p : ℕ → ℕ) (j i : ℕ) → i < m → Symbols p → p i ⊕ product F (from m p j (suc i)) (power F α j) ≡ from m p j i
+    pub from-turn : (m : ℕ) (p : ℕ → ℕ) (j i : ℕ) → i < m → Elements p → p i ⊕ product F (from m p j (suc i)) (power F α j) ≡ from m p j i
     unfolding from
     from-turn m p j i h elements =
         let count : 1 + (m - suc i) ≡ m - i = omega arith in

@@ -1,11 +1,11 @@
 -- An edit of a page's own signature, with the bytes that the page really held, is the signature of the edited page.
 -- Assumes nothing.
-use mathlib.Core.Path.{_≡_, refl, sym, ap, ap₂, _∙_, subst}
+use mathlib.Core.Path.{_≡_, sym, ap, ap₂, _∙_, subst}
 use mathlib.Core.List.{List}
 use Prim.Native.Nat.{ℕ, _+_, _-_, _*_, _^_, _≤_, _<_}
-use native.Mathlib.Nat.{add-mul, add-assoc, add-sub-of-le, mul-le-mul-right, le-trans, le-add-right}
+use native.Mathlib.Nat.{add-mul, mul-le-mul-right}
 use native.Mathlib.Omega.{arith}
-use lib.ListN.{length, getD}
+use lib.ListN.{length}
 use Rattle.units.specs.Counts.{symbolsIn}
 use Rattle.field.specs.Field.{Field, Element, _⊕_, product, power, α}
 use Rattle.field.proofs.Sums.{sum-self, sum-zero, zero-sum, sum-undo, sum-lt}

@@ -7,5 +7,7 @@ pub mod Vanishing
 pub mod Parts
 pub mod Joining
 pub mod Editing
+pub mod Edited
+pub mod Differing
 pub mod Detection
 pub mod Answers

@@ -1,6 +1,6 @@
 -- Symbols made of octets are elements of a field that is wide enough.
 -- Assumes nothing.
-use mathlib.Core.Path.{_≡_, refl, sym, subst}
+use mathlib.Core.Path.{sym, subst}
 use mathlib.Core.List.{List}
 use Prim.Native.Nat.{ℕ, zero, suc, _+_, _*_, _^_, _≤_, _<_}
 use native.Mathlib.Nat.{pow-suc, mul-comm, zero-lt-suc, lt-of-lt-of-le, mul-le-mul-left, le-refl}

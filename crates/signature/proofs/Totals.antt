@@ -1,11 +1,10 @@
 -- Sums over positions: equal terms, sums of sums, sums in two parts, and what an additive map does to them.
 -- Assumes nothing.
 use mathlib.Core.Path.{_≡_, refl, sym, ap, ap₂, _∙_}
-use Prim.Native.Nat.{ℕ, zero, suc, _+_, _^_, _<_}
+use Prim.Native.Nat.{ℕ, zero, suc, _+_, _<_}
 use native.Mathlib.Nat.{add-zero, add-suc, le-step, lt-suc-self}
-use lib.Pow.{pow-pos}
 use Rattle.field.specs.Field.{_⊕_}
-use Rattle.field.proofs.Sums.{zero-sum, sum-zero, sum-assoc, sum-cross, sum-lt}
+use Rattle.field.proofs.Sums.{zero-sum, sum-zero, sum-assoc, sum-cross}
 use Rattle.field.proofs.Additive.{Additive, at-zero}
 use Rattle.signature.specs.Signatures.{total}
 
@@ -36,8 +35,3 @@ pub total-nothing : (m : ℕ) (f : ℕ → ℕ) → ((i : ℕ) → i < m → f i
 unfolding total
 total-nothing zero f e = refl
 total-nothing (suc m) f e = ap₂ _⊕_ (total-nothing m f (λ i h. e i (le-step h))) (e m (lt-suc-self m)) ∙ zero-sum 0
-
-pub total-lt : (k m : ℕ) (f : ℕ → ℕ) → ((i : ℕ) → i < m → f i < 2 ^ k) → total m f < 2 ^ k
-unfolding total
-total-lt k zero f h = pow-pos k
-total-lt k (suc m) f h = sum-lt k (total-lt k m f (λ i l. h i (le-step l))) (h m (lt-suc-self m))

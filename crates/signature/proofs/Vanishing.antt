@@ -20,7 +20,7 @@ use Rattle.field.proofs.Orders.{powers-distinct, power-not-zero, no-zero-diviso
 use Rattle.signature.specs.Signatures.{total, component}
 use Rattle.signature.specs.Differences.{count}
 use Rattle.signature.proofs.Totals.{total-same, total-sum, total-image}
-use Rattle.signature.proofs.Components.{Symbols, component-nothing}
+use Rattle.signature.proofs.Components.{Elements, component-nothing}
 
 -- a symbol that counts
 abbrev pub present : (ℕ → ℕ) → ℕ → Bool
@@ -63,7 +63,7 @@ module _ (F : Field) (good : Passes F) where
       ∙ ap (product F x) (product-comm F (formed F good) hc (a-power (i * j)))
       ∙ sym (product-assoc F (formed F good) hx (a-power (i * j)) hc))
 
-  reduced-component : (m : ℕ) (d : ℕ → ℕ) (c j : ℕ) → Symbols F d → Element F c
+  reduced-component : (m : ℕ) (d : ℕ → ℕ) (c j : ℕ) → Elements F d → Element F c
       → component F m (reduced d c) j ≡ component F m d (suc j) ⊕ product F (component F m d j) c
   unfolding component reduced
   reduced-component m d c j elements hc =
@@ -92,7 +92,7 @@ module _ (F : Field) (good : Passes F) where
   abbrev pub Vanish : ℕ → ℕ → (ℕ → ℕ) → Type 0
   Vanish k m d = (j : ℕ) → j < k → component F m d (suc j) ≡ 0
 
-  reduced-vanishes : (k t : ℕ) (d : ℕ → ℕ) → Symbols F d → Vanish (suc k) (suc t) d → Vanish k t (reduced d (power F α t))
+  reduced-vanishes : (k t : ℕ) (d : ℕ → ℕ) → Elements F d → Vanish (suc k) (suc t) d → Vanish k t (reduced d (power F α t))
   unfolding reduced
   reduced-vanishes k t d elements zeros j h =
       sym (component-last t (reduced d (power F α t)) (suc j) (ap (product F (d t)) (sum-self (power F α t)) ∙ product-zero F (formed F good) (d t)))
@@ -102,13 +102,13 @@ module _ (F : Field) (good : Passes F) where
       ∙ zero-sum 0
 
   -- the last symbol, where all before it are zero
-  last-zero : (t : ℕ) (d : ℕ → ℕ) → Symbols F d → ((i : ℕ) → i < t → d i ≡ 0) → component F (suc t) d 1 ≡ 0 → d t ≡ 0
+  last-zero : (t : ℕ) (d : ℕ → ℕ) → Elements F d → ((i : ℕ) → i < t → d i ≡ 0) → component F (suc t) d 1 ≡ 0 → d t ≡ 0
   last-zero t d elements before zero-one =
       cancelled (elements t) (a-power (t * 1)) (sym (component-alone t d 1 (component-nothing F t d 1 before)) ∙ zero-one) (power-not-zero F good (t * 1))
 
   -- that few symbols among the first m, and components 1 to k zero, leave none
   abbrev Cleared : ℕ → Type 0
-  Cleared m = (k : ℕ) (d : ℕ → ℕ) → Symbols F d → count m (present d) ≤ k → Vanish k m d → (i : ℕ) → i < m → d i ≡ 0
+  Cleared m = (k : ℕ) (d : ℕ → ℕ) → Elements F d → count m (present d) ≤ k → Vanish k m d → (i : ℕ) → i < m → d i ≡ 0
 
   apart : (i t : ℕ) → i < t → t < order F → power F α i ⊕ power F α t ≢ 0
   apart i t h short e =
@@ -121,7 +121,7 @@ module _ (F : Field) (good : Passes F) where
       ap not (eq-eqb (product F (d i) (power F α i ⊕ c)) 0
       (ap (λ (x : ℕ). product F x (power F α i ⊕ c)) (eqb-true (d i) 0 (not-false (eqb (d i) 0) e)) ∙ zero-product F (power F α i ⊕ c)))
 
-  last-present : (t k : ℕ) (d : ℕ → ℕ) → Symbols F d → t < order F → Cleared t → d t ≢ 0 → count (suc t) (present d) ≤ k → Vanish k (suc t) d → ⊥
+  last-present : (t k : ℕ) (d : ℕ → ℕ) → Elements F d → t < order F → Cleared t → d t ≢ 0 → count (suc t) (present d) ≤ k → Vanish k (suc t) d → ⊥
   unfolding count reduced
   last-present t zero d elements short cleared n few zeros =
       let one : present d t ≡ true = ap not (ne-eqb (d t) 0 n) in

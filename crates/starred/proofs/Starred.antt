@@ -1,8 +1,7 @@
 -- Every row of the table gives what it says: both columns compute to the same list.
 -- Assumes nothing.
 use mathlib.Core.Path.{_≡_, refl}
-use mathlib.Core.List.{List, map}
-use Prim.Native.Nat.{ℕ}
+use mathlib.Core.List.{map}
 use Rattle.field.specs.Field.{_⊕_, digit, expanded, reduced, product, power}
 use Rattle.signature.specs.Objects.{lowFirst, symbol}
 use Rattle.signature.specs.Signatures.{total, component}

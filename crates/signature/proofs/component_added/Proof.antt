@@ -1,6 +1,6 @@
 -- `signature::component_added` meets its contract.
 -- Assumes nothing.
-use mathlib.Core.Path.{_≡_, sym, ap, _∙_}
+use mathlib.Core.Path.{_≡_, ap, _∙_}
 use Prim.Native.Nat.{ℕ, _*_}
 use borrow.Author.Tests.{lt-leb, le-leb}
 use Rattle.field.specs.Field.{_⊕_, GF16, product, power, α}

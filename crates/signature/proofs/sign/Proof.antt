@@ -1,7 +1,7 @@
 -- `signature::sign` meets its contract: each return is the definition at the tests that led there.
 -- Assumes nothing.
 use mathlib.Core.Path.{_≡_, sym, ap, _∙_}
-use mathlib.Core.Bool.{Bool, true, false}
+use mathlib.Core.Bool.{true, false}
 use borrow.Author.Tests.{not-true, not-false}
 use denote.Ref.{now}
 use Rattle.units.specs.Sizes.{nAllowed, objectAllowed}
