@@ -17,20 +17,31 @@ module _ (F : Field) where
   abbrev pub Elements : (ℕ → ℕ) → Type 0
   Elements p = (i : ℕ) → Element F (p i)
 
+  pub component-one : Formed F → (p : ℕ → ℕ) (j : ℕ) → Element F (p 0) → component F 1 p j ≡ p 0
+  unfolding component total
+  component-one formed p j h =
+      zero-sum (product F (p 0) (power F α (0 * j)))
+      ∙ ap (λ (e : ℕ). product F (p 0) (power F α e)) (zero-mul j)
+      ∙ ap (product F (p 0)) (power-zero F formed α)
+      ∙ product-one F formed h
+
+  -- equal symbols, equally weighed
+  weighed : {x y : ℕ} (w : ℕ) → x ≡ y → product F x w ≡ product F y w
+  weighed w e = ap (λ (x : ℕ). product F x w) e
+
   pub component-same : (m : ℕ) (p q : ℕ → ℕ) (j : ℕ) → ((i : ℕ) → i < m → p i ≡ q i) → component F m p j ≡ component F m q j
   unfolding component
-  component-same m p q j e = total-same m _ _ (λ i h. ap (λ (x : ℕ). product F x (power F α (i * j))) (e i h))
+  component-same m p q j e = total-same m _ _ (λ i h. weighed _ (e i h))
 
   pub component-sum : (m : ℕ) (p q : ℕ → ℕ) (j : ℕ) → component F m (λ i. p i ⊕ q i) j ≡ component F m p j ⊕ component F m q j
   unfolding component
   component-sum m p q j =
-      total-same m _ _ (λ i h. sum-product F (power F α (i * j)) (p i) (q i))
-      ∙ total-sum m (λ i. product F (p i) (power F α (i * j))) (λ i. product F (q i) (power F α (i * j)))
+      total-same m _ _ (λ i h. sum-product F _ (p i) (q i)) ∙ total-sum m _ _
 
   pub component-nothing : (m : ℕ) (p : ℕ → ℕ) (j : ℕ) → ((i : ℕ) → i < m → p i ≡ 0) → component F m p j ≡ 0
   unfolding component
   component-nothing m p j e =
-      total-nothing m _ (λ i h. ap (λ (x : ℕ). product F x (power F α (i * j))) (e i h) ∙ zero-product F (power F α (i * j)))
+      total-nothing m _ (λ i h. weighed _ (e i h) ∙ zero-product F _)
 
   -- what stands from position i on, of m symbols
   unfoldable pub from : ℕ → (ℕ → ℕ) → ℕ → ℕ → ℕ
@@ -54,14 +65,6 @@ module _ (F : Field) where
         (total-same b _ _ (λ i h. moved a i j (elements i h))
         ∙ sym (total-image (λ x. product F x (power F α (j * a))) (sum-product F (power F α (j * a))) b (λ i. product F (p (a + i)) (power F α (i * j)))))
 
-    pub component-one : (p : ℕ → ℕ) (j : ℕ) → Element F (p 0) → component F 1 p j ≡ p 0
-    unfolding component total
-    component-one p j h =
-        zero-sum (product F (p 0) (power F α (0 * j)))
-        ∙ ap (λ (e : ℕ). product F (p 0) (power F α e)) (zero-mul j)
-        ∙ ap (product F (p 0)) (power-zero F formed α)
-        ∙ product-one F formed h
-
     -- ---- Horner's rule
 
     pub from-end : (m : ℕ) (p : ℕ → ℕ) (j : ℕ) → from m p j m ≡ 0
@@ -80,7 +83,7 @@ module _ (F : Field) where
         (ap (λ (c : ℕ). component F c (λ k. p (i + k)) j) (sym count)
         ∙ component-parts 1 (m - suc i) (λ k. p (i + k)) j (λ k l. elements (i + (1 + k)))
         ∙ ap₂ _⊕_
-        (component-one (λ k. p (i + k)) j (elements (i + 0)) ∙ ap p (add-zero i))
+        (component-one formed (λ k. p (i + k)) j (elements (i + 0)) ∙ ap p (add-zero i))
         (ap₂ (λ (x k : ℕ). product F x (power F α k)) (component-same (m - suc i) (λ k. p (i + (1 + k))) (λ k. p (suc i + k)) j (λ k l. ap p (further k))) (mul-one j)))
       where
         further : (k : ℕ) → i + (1 + k) ≡ suc i + k

@@ -33,7 +33,7 @@ apart-or-same (suc n) s t =
     (λ (a : Apart n s t). inl (a .0, a .1, le-step (a .2), a .3))
     (λ (same : (j : ℕ) → j < n → s (suc j) ≡ t (suc j)).
     dite (ℕ-discrete (s (suc n)) (t (suc n)))
-    (λ (e : s (suc n) ≡ t (suc n)). inr (λ j h. ⊎-elim (λ (q : j ≡ n). ap (λ (k : ℕ). s (suc k)) q ∙ e ∙ ap (λ (k : ℕ). t (suc k)) (sym q)) (same j) (eq-or-lt-of-le (le-of-suc-le-suc h))))
+    (λ (e : s (suc n) ≡ t (suc n)). inr (λ j h. ⊎-elim (λ (q : j ≡ n). ap (λ k. s (suc k)) q ∙ e ∙ ap (λ k. t (suc k)) (sym q)) (same j) (eq-or-lt-of-le (le-of-suc-le-suc h))))
     (λ (d : s (suc n) ≢ t (suc n)). inl (suc n, zero-lt-suc n, le-refl (suc n), d)))
     (apart-or-same n s t)
 

@@ -1,4 +1,4 @@
--- What the contracts of `signature`, and of every crate above it, cite.
+-- What the contracts of `signature` cite, and what its promises speak of.
 pub mod Objects
 pub mod Signatures
 pub mod Operations

@@ -166,9 +166,7 @@ fn component(j: usize, object: &[u8]) -> u16
     ensures { λ r. ⌜ r ≡ Object·signature GF16 2 (now (object .entry)) j ⌝ }
 {
     let mut s: u16 = 0;
-    let mut i = units::symbols_of(Bytes {
-        count: object.len(),
-    }).count;
+    let mut i = symbols_in(object).count;
     while i > 0 {
         i -= 1;
         s = field::sum(symbol(object, i), doubled(j, s));

@@ -22,14 +22,14 @@ Inv-loop j object s₀ i₀ s i = (i ≤ symbols 2 object) × (s ≡ rest object
 abbrev μ-loop : tie.MeasureT-loop
 μ-loop j object s₀ i₀ s i = i
 
-symbols-of-requires : tie.Need-symbols-of-requires Inv-loop μ-loop
-symbols-of-requires c κs = tt
+symbols-in-requires : tie.Need-symbols-in-requires Inv-loop μ-loop
+symbols-in-requires c κs = tt
 
 loop-holds : tie.Need-loop-holds Inv-loop μ-loop
 unfolding rest
 loop-holds c =
     let object : List ℕ = c .before .before .args .object .now in
-    let all : c .symbols-of .result .count ≡ symbols 2 object = c .symbols-of .ensures in (
+    let all : c .symbols-in .result .count ≡ symbols 2 object = c .symbols-in .ensures in (
       omega arith,
       sym (ap (rest object (c .before .before .args .j)) all ∙ from-end GF16 GF16-formed (symbols 2 object) (symbol 2 object) (c .before .before .args .j)),
     )
@@ -82,7 +82,7 @@ component-spec =
     (tie.spec
     Inv-loop
     μ-loop
-    symbols-of-requires
+    symbols-in-requires
     loop-holds
     sub-i
     symbol-requires

@@ -19,16 +19,20 @@ use Rattle.signature.proofs.edit.Tie as tie
 size : (c : tie.Else1) → nAllowed (c .before .before .before .before .args .s .n) ≡ true
 size c = sym (c .before .n-allowed .ensures) ∙ not-false _ (c .if1 .left)
 
-within : (c : tie.Else2) → objectAllowed (c .before .before .before .before .before .before .before .args .r .count + symbols 2 (now (c .before .before .before .before .before .before .before .args .old))) ≡ true
+-- where the function was called
+abbrev start : tie.Else2 → tie.Start
+start c = c .before .before .before .before .before .before .before
+
+within : (c : tie.Else2) → objectAllowed (start c .args .r .count + symbols 2 (now (start c .args .old))) ≡ true
 within c =
-    ap (λ (m : ℕ). objectAllowed (c .before .before .before .before .before .before .before .args .r .count + m)) (sym (c .before .before .symbols-in .ensures))
+    ap (λ (m : ℕ). objectAllowed (start c .args .r .count + m)) (sym (c .before .before .symbols-in .ensures))
     ∙ sym (c .before .fits2 .ensures)
     ∙ not-false _ (c .if2 .left)
 
-pieces : (c : tie.Else4) → whole (now (c .before .before .before .before .before .before .before .before .before .args .old)) && whole (now (c .before .before .before .before .before .before .before .before .before .args .new)) ≡ true
+pieces : (c : tie.Else4) → whole (now (start (c .before .before) .args .old)) && whole (now (start (c .before .before) .args .new)) ≡ true
 pieces c =
-    let old : whole (now (c .before .before .before .before .before .before .before .before .before .args .old)) ≡ true = eq-eqb _ _ (c .before .if3 .left) in
-    let new : whole (now (c .before .before .before .before .before .before .before .before .before .args .new)) ≡ true = eq-eqb _ _ (c .if4 .left) in
+    let old : whole (now (start (c .before .before) .args .old)) ≡ true = eq-eqb _ _ (c .before .if3 .left) in
+    let new : whole (now (start (c .before .before) .args .new)) ≡ true = eq-eqb _ _ (c .if4 .left) in
     simp (old, new)
 
 n-allowed-requires : tie.Need-n-allowed-requires
@@ -66,7 +70,7 @@ refused-requires-3 c κs = tt
 returns-3 : tie.Need-returns-3
 returns-3 c =
     let before : tie.Else2 = c .before .before in
-    let old : whole (now (before .before .before .before .before .before .before .before .args .old)) ≡ false = ne-eqb _ _ (c .before .if3 .taken) in
+    let old : whole (now (start before .args .old)) ≡ false = ne-eqb _ _ (c .before .if3 .taken) in
     simp (size (before .before .before .before), within before, old) (c .refused3 .ensures)
 
 refused-requires-4 : tie.Need-refused-requires-4
@@ -75,8 +79,8 @@ refused-requires-4 c κs = tt
 returns-4 : tie.Need-returns-4
 returns-4 c =
     let before : tie.Else2 = c .before .before .before in
-    let old : whole (now (before .before .before .before .before .before .before .before .args .old)) ≡ true = eq-eqb _ _ (c .before .before .if3 .left) in
-    let new : whole (now (before .before .before .before .before .before .before .before .args .new)) ≡ false = ne-eqb _ _ (c .before .if4 .taken) in
+    let old : whole (now (start before .args .old)) ≡ true = eq-eqb _ _ (c .before .before .if3 .left) in
+    let new : whole (now (start before .args .new)) ≡ false = ne-eqb _ _ (c .before .if4 .taken) in
     simp (size (before .before .before .before), within before, old, new) (c .refused4 .ensures)
 
 refused-requires-5 : tie.Need-refused-requires-5
@@ -96,7 +100,7 @@ added-at-requires c κs = tt
 returns-6 : tie.Need-returns-6
 returns-6 c =
     let before : tie.Else4 = c .before .before .before in
-    let args : _ = before .before .before .before .before .before .before .before .before .before .args in
+    let args : _ = start (before .before .before) .args in
     let added : c .added-at .result ≡ answered (args .s .n) (edited GF16 (handed (args .s)) (args .r .count) (signature GF16 2 (now (args .old))) (signature GF16 2 (now (args .new)))) =
     c .added-at .ensures
     ∙ ap (λ (t : Signature). answered (args .s .n) (joined GF16 (handed (args .s)) (args .r .count) (handed t))) (c .before .change .ensures)
