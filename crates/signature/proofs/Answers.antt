@@ -1,10 +1,10 @@
 -- What is promised of sign, join and edit, for the answers that their contracts name.
 -- Assumes nothing.
-use mathlib.Core.Path.{_≡_, refl, sym, ap₂, _∙_}
+use mathlib.Core.Path.{_≡_, refl, sym, ap, ap₂, _∙_}
 use mathlib.Core.Logic.{_≢_, _↔_, dite}
 use mathlib.Core.Bool.{true, and-self}
 use mathlib.Core.List.{List, [], _∷_, _++_}
-use Prim.Native.Nat.{ℕ, _+_, _*_, _%_, _≤_, _<_}
+use Prim.Native.Nat.{ℕ, zero, suc, _+_, _*_, _%_, _≤_, _<_}
 use native.Mathlib.Nat.{le-refl, zero-lt-suc, pos-of-ne-zero}
 use native.Mathlib.Decide.{ℕ-discrete}
 use native.Mathlib.Omega.{arith}
@@ -70,6 +70,32 @@ join-refused one a two b = refused-when (joinTests one a two b) tt (answered (on
 pub edit-refused : (s : Signature) (r : ℕ) (old new : List ℕ) (why : Refusal) → (told (editing s r old new) ≡ Verdict.Refused why) ↔ Lowest (editTests s r old new) why
 edit-refused s r old new =
     refused-when (editTests s r old new) tt (answered (s .n) (edited GF16 (handed s) r (signature GF16 2 old) (signature GF16 2 new)))
+
+-- ---- components above n are zero in every answer, and ignored on entry
+
+pub above-zero : (n : ℕ) (s : ℕ → ℕ) (j : ℕ) → n < j → handed (answered n s) j ≡ 0
+above-zero n s zero h = refl
+above-zero n s (suc zero) h = simp (lt-leb 1 n h)
+above-zero n s (suc (suc zero)) h = simp (lt-leb 2 n h)
+above-zero n s (suc (suc (suc zero))) h = simp (lt-leb 3 n h)
+above-zero n s (suc (suc (suc (suc zero)))) h = simp (lt-leb 4 n h)
+above-zero n s (suc (suc (suc (suc (suc j))))) h = refl
+
+-- with zeros above n
+abbrev pub cleared : Signature → Signature
+cleared s = answered (s .n) (handed s)
+
+pub join-ignores-above : (one : Signature) (a : ℕ) (two : Signature) (b : ℕ) → two .n ≡ one .n → joining (cleared one) a (cleared two) b ≡ joining one a two b
+join-ignores-above one a two b same =
+    ap (unless (first (joinTests one a two b)))
+    (answered-handed (one .n) (λ j x. x ⊕ product GF16 (handed (cleared two) j) (power GF16 α (j * a))) (handed one)
+    ∙ ap (λ (m : ℕ). answered (one .n) (joined GF16 (handed one) a (handed (answered m (handed two))))) same
+    ∙ answered-handed (one .n) (λ j x. handed one j ⊕ product GF16 x (power GF16 α (j * a))) (handed two))
+
+pub edit-ignores-above : (s : Signature) (r : ℕ) (old new : List ℕ) → editing (cleared s) r old new ≡ editing s r old new
+edit-ignores-above s r old new =
+    ap (unless (first (editTests s r old new)))
+    (answered-handed (s .n) (λ j x. x ⊕ product GF16 (signature GF16 2 old j ⊕ signature GF16 2 new j) (power GF16 α (j * r))) (handed s))
 
 -- ---- a join of two parts, an edit of a page
 
