@@ -169,7 +169,7 @@ fn component(j: usize, object: &[u8]) -> u16
     let mut i = symbols_in(object).count;
     while i > 0 {
         i -= 1;
-        s = field::sum(symbol(object, i), doubled(j, s));
+        s = field::sum(symbol(object, Symbols { count: i }), doubled(j, s));
     }
     s
 }
@@ -187,18 +187,21 @@ fn doubled(j: usize, s: u16) -> u16
     r
 }
 
-fn symbol(object: &[u8], i: usize) -> u16
-    requires { ⌜ i * 2 < length (now object) ⌝ }
-    ensures { λ r. ⌜ r ≡ Object·symbol 2 (now (object .entry)) i ⌝ }
+fn symbol(object: &[u8], at: Symbols) -> u16
+    requires { ⌜ at .count * 2 < length (now object) ⌝ }
+    ensures { λ r. ⌜ r ≡ Object·symbol 2 (now (object .entry)) (at .count) ⌝ }
 {
-    let low = byte(object, i * 2) as u16;
-    let high = byte(object, i * 2 + 1) as u16;
+    let first = units::bytes_of(at).count;
+    let second = first + 1;
+    let low = byte(object, Bytes { count: first }) as u16;
+    let high = byte(object, Bytes { count: second }) as u16;
     low + high * 256
 }
 
 // The byte at a place, and zero past the end.
-fn byte(object: &[u8], at: usize) -> u8
-    ensures { λ r. ⌜ r ≡ getD (now (object .entry)) at 0 ⌝ }
+fn byte(object: &[u8], at: Bytes) -> u8
+    ensures { λ r. ⌜ r ≡ getD (now (object .entry)) (at .count) 0 ⌝ }
 {
-    if at < object.len() { object[at] } else { 0 }
+    let i = at.count;
+    if i < object.len() { object[i] } else { 0 }
 }

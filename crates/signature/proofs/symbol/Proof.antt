@@ -1,7 +1,8 @@
--- `signature::symbol` meets its contract.
+-- `signature::symbol` meets its contract: its two bytes are those at twice its place.
 -- Assumes nothing.
 use mathlib.Core.Path.{_≡_, ap, _∙_}
-use Prim.Native.Nat.{ℕ, suc, _*_}
+use mathlib.Core.List.{List}
+use Prim.Native.Nat.{ℕ, suc, _+_, _*_}
 use native.Mathlib.Numerals.{add-one}
 use native.Mathlib.Omega.{arith}
 use borrow.Author.Needs.{needs}
@@ -11,20 +12,17 @@ use Rattle.signature.specs.Objects.{symbol, lowFirst}
 use Rattle.signature.proofs.symbol.Statement.{statement}
 use Rattle.signature.proofs.symbol.Tie as tie
 
-mul-byte : tie.Need-mul-byte
-mul-byte c = search needs
+bytes-of-requires : tie.Need-bytes-of-requires
+bytes-of-requires c κs = tt
+
+add-second : tie.Need-add-second
+add-second c = search needs
 
 byte-requires : tie.Need-byte-requires
 byte-requires c κs = tt
 
 cast-low : tie.Need-cast-low
 cast-low c = search needs
-
-mul-byte-2 : tie.Need-mul-byte-2
-mul-byte-2 c = search needs
-
-add-byte : tie.Need-add-byte
-add-byte c = search needs
 
 byte-requires-2 : tie.Need-byte-requires-2
 byte-requires-2 c κs = tt
@@ -41,21 +39,22 @@ add-result c = search needs
 returns : tie.Need-returns
 unfolding symbol lowFirst
 returns c =
-    let at : _ = c .before .before .before .args in
-    let low : c .before .byte .result ≡ getD (now (at .object)) (at .i * 2) 0 = c .before .byte .ensures in
-    let high : c .byte2 .result ≡ getD (now (at .object)) (suc (at .i * 2)) 0 =
-    c .byte2 .ensures ∙ ap (λ (k : ℕ). getD (now (at .object)) k 0) (add-one (at .i * 2)) in
+    let args : _ = c .before .before .before .before .args in
+    let object : List ℕ = now (args .object) in
+    let place : c .before .before .bytes-of .result .count ≡ args .at .count * 2 = omega arith in
+    let low : c .before .byte .result ≡ getD object (args .at .count * 2) 0 = c .before .byte .ensures ∙ ap (λ (k : ℕ). getD object k 0) place in
+    let high : c .byte2 .result ≡ getD object (suc (args .at .count * 2)) 0 =
+    c .byte2 .ensures ∙ ap (λ (k : ℕ). getD object (k + 1) 0) place ∙ ap (λ (k : ℕ). getD object k 0) (add-one (args .at .count * 2)) in
     omega arith
 
 pub symbol-spec : {M : Type 1} → statement M
 symbol-spec =
     tie.close
     (tie.spec
-    mul-byte
+    bytes-of-requires
+    add-second
     byte-requires
     cast-low
-    mul-byte-2
-    add-byte
     byte-requires-2
     cast-high
     mul-result
