@@ -3,7 +3,7 @@
 
 demo: kit
 	@mkdir -p target
-	@echo "Proving and building the program cases (half a minute from nothing) .."
+	@echo "Proving and building the program cases (a minute from nothing) .."
 	@rt check cases > target/demo.log 2>&1 || { cat target/demo.log; exit 1; }
 	@target/bin/cases
 

@@ -90,6 +90,7 @@ fn edited() {
     text(b"edited\n");
     let s = own(2, b"\x01\x00\x02\x00");
     edit(b"case 8, 0002 at 1 to 0003", s, 1, b"\x02\x00", b"\x03\x00");
+    edit(b"n 0", own(0, b""), 65_535, b"", b"");
     edit(b"nothing at 65534", s, 65_534, b"", b"");
     edit(b"nothing at 65535", s, 65_535, b"", b"");
     edit(b"an odd old piece", s, 1, b"\x02", b"\x03\x00");

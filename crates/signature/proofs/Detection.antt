@@ -11,15 +11,15 @@ use native.Mathlib.Omega.{arith}
 use lib.Dec.{eqb}
 use lib.ListN.{length}
 use borrow.Author.Tests.{eq-eqb, eqb-true, not-false}
-use Rattle.field.specs.Field.{Field, Element, _⊕_, order}
-use Rattle.field.proofs.Sums.{sum-self, sum-lt, equal-of-sum}
+use Rattle.field.specs.Field.{Field, _⊕_, order}
+use Rattle.field.proofs.Sums.{sum-self, equal-of-sum}
 use Rattle.field.proofs.Tests.{Passes}
 use Rattle.units.specs.Counts.{symbolsIn}
 use Rattle.signature.specs.Objects.{Octets, symbol, symbols}
 use Rattle.signature.specs.Signatures.{component, signature}
 use Rattle.signature.specs.Differences.{count, differing}
 use Rattle.signature.proofs.Components.{component-sum}
-use Rattle.signature.proofs.Octets.{symbol-element}
+use Rattle.signature.proofs.Octets.{difference, difference-element, same-difference}
 use Rattle.signature.proofs.Vanishing.{present, count-le, all-zero}
 
 -- one of the components 1 to n is another
@@ -44,24 +44,16 @@ count-none (suc m) f e = simp (e m (lt-suc-self m), count-none m f (λ i h. e i 
 
 module _ (F : Field) (good : Passes F) (size : ℕ) (wide : 256 ^ size ≤ 2 ^ F .width) (one other : List ℕ)
     (one-octets : Octets one) (other-octets : Octets other) (lengths : length one ≡ length other) (short : symbols size one ≤ order F) where
-  difference : ℕ → ℕ
-  difference i = symbol size one i ⊕ symbol size other i
-
-  difference-element : (i : ℕ) → Element F (difference i)
-  unfolding difference
-  difference-element i =
-      sum-lt (F .width) (symbol-element F size wide one one-octets i) (symbol-element F size wide other other-octets i)
-
   -- positions whose symbols agree do not count
-  counted : count (symbols size one) (present difference) ≤ differing size one other
-  unfolding differing difference
+  counted : count (symbols size one) (present (difference size one other)) ≤ differing size one other
+  unfolding differing
   counted =
-      count-le (symbols size one) (present difference) (λ i. not (eqb (symbol size one i) (symbol size other i)))
+      count-le (symbols size one) (present (difference size one other)) (λ i. not (eqb (symbol size one i) (symbol size other i)))
       (λ i h e.
       let same : symbol size one i ≡ symbol size other i = eqb-true (symbol size one i) (symbol size other i) (not-false (eqb (symbol size one i) (symbol size other i)) e) in
-      ap not (eq-eqb (symbol size one i ⊕ symbol size other i) 0 (ap (λ (x : ℕ). symbol size one i ⊕ x) (sym same) ∙ sum-self (symbol size one i))))
+      ap not (eq-eqb (difference size one other i) 0 (same-difference size one other i same)))
 
-  vanish : (j : ℕ) → signature F size one j ≡ signature F size other j → component F (symbols size one) difference j ≡ 0
+  vanish : (j : ℕ) → signature F size one j ≡ signature F size other j → component F (symbols size one) (difference size one other) j ≡ 0
   unfolding difference
   vanish j e =
       component-sum F (symbols size one) (symbol size one) (symbol size other) j
@@ -77,7 +69,8 @@ module _ (F : Field) (good : Passes F) (size : ℕ) (wide : 256 ^ size ≤ 2 ^ F
       (λ i h.
       ap not (eq-eqb (symbol size one i) (symbol size other i)
       (equal-of-sum (symbol size one i) (symbol size other i)
-      (all-zero F good (symbols size one) short n difference difference-element (le-trans counted few) (λ j l. vanish (suc j) (same j l)) i h))))
+      (all-zero F good (symbols size one) short n (difference size one other) (difference-element F size wide one other one-octets other-octets)
+      (le-trans counted few) (λ j l. vanish (suc j) (same j l)) i h))))
 
   pub told-apart : (n : ℕ) → 1 ≤ differing size one other → differing size one other ≤ n → Apart n (signature F size one) (signature F size other)
   told-apart n some few =

@@ -8,14 +8,14 @@ use native.Mathlib.Omega.{arith}
 use lib.ListN.{length}
 use Rattle.units.specs.Counts.{symbolsIn}
 use Rattle.field.specs.Field.{Field, Element, _⊕_, product, power, α}
-use Rattle.field.proofs.Sums.{sum-self, sum-zero, zero-sum, sum-undo, sum-lt}
+use Rattle.field.proofs.Sums.{sum-zero, zero-sum, sum-undo}
 use Rattle.field.proofs.Reducing.{zero-product}
 use Rattle.field.proofs.Products.{Formed}
 use Rattle.signature.specs.Objects.{Octets, symbol, symbols}
 use Rattle.signature.specs.Signatures.{component, signature, edited}
 use Rattle.signature.specs.Edits.{Edited}
 use Rattle.signature.proofs.Components.{component-same, component-sum, component-nothing, component-parts}
-use Rattle.signature.proofs.Octets.{symbol-element}
+use Rattle.signature.proofs.Octets.{difference, difference-element, same-difference}
 use Rattle.signature.proofs.Parts.{byte-inside, symbols-whole, symbol-same, symbol-part}
 
 module _ (F : Field) (formed : Formed F) (size : ℕ) (some : 0 < size) (wide : 256 ^ size ≤ 2 ^ F .width) where
@@ -45,21 +45,9 @@ module _ (F : Field) (formed : Formed F) (size : ℕ) (some : 0 < size) (wide : 
         let up : (r + c) * size ≤ i * size = mul-le-mul-right size h in
         sym (e .kept-above (i * size + k) (omega (arith, add-mul r c size, old-whole))))
 
-    change : ℕ → ℕ
-    change i = symbol size page i ⊕ symbol size after i
-
-    change-element : (i : ℕ) → Element F (change i)
-    unfolding change
-    change-element i =
-        sum-lt (F .width) (symbol-element F size wide page page-octets i) (symbol-element F size wide after after-octets i)
-
-    no-change : (i : ℕ) → symbol size page i ≡ symbol size after i → change i ≡ 0
-    unfolding change
-    no-change i same = ap (λ (x : ℕ). symbol size page i ⊕ x) (sym same) ∙ sum-self (symbol size page i)
-
-    change-inside : (i : ℕ) → i < c → change (r + i) ≡ symbol size old i ⊕ symbol size new i
-    unfolding change
-    change-inside i h =
+    difference-inside : (i : ℕ) → i < c → difference size page after (r + i) ≡ symbol size old i ⊕ symbol size new i
+    unfolding difference
+    difference-inside i h =
         ap₂ _⊕_
         (symbol-part size page old r c (λ k l. e .held k (subst (λ (n : ℕ). k < n) (sym old-whole) l)) i h)
         (symbol-part size after new r c (λ k l. e .holds k (subst (λ (n : ℕ). k < n) (sym new-whole) l)) i h)
@@ -71,17 +59,18 @@ module _ (F : Field) (formed : Formed F) (size : ℕ) (some : 0 < size) (wide : 
         omega arith
 
     pub edit-law : (j : ℕ) → signature F size after j ≡ edited F (signature F size page) r (signature F size old) (signature F size new) j
-    unfolding change
+    unfolding difference
     edit-law j =
         ap (λ (n : ℕ). component F (symbolsIn size n) (symbol size after) j) (e .same-length)
-        ∙ component-same F (symbols size page) (symbol size after) (λ i. symbol size page i ⊕ change i) j
+        ∙ component-same F (symbols size page) (symbol size after) (λ i. symbol size page i ⊕ difference size page after i) j
         (λ i h. sym (sum-undo (symbol size page i) (symbol size after i)))
-        ∙ component-sum F (symbols size page) (symbol size page) change j
+        ∙ component-sum F (symbols size page) (symbol size page) (difference size page after) j
         ∙ ap (λ (x : ℕ). component F (symbols size page) (symbol size page) j ⊕ x)
-        (ap (λ (m : ℕ). component F m change j) length-split
-        ∙ change-only r c (symbols size page - (r + c)) change j change-element (λ i h. no-change i (same-below i h)) (λ i h. no-change i (same-above i h))
+        (ap (λ (m : ℕ). component F m (difference size page after) j) length-split
+        ∙ change-only r c (symbols size page - (r + c)) (difference size page after) j
+        (difference-element F size wide page after page-octets after-octets) (λ i h. same-difference size page after i (same-below i h)) (λ i h. same-difference size page after i (same-above i h))
         ∙ ap (λ (x : ℕ). product F x (power F α (j * r)))
-        (component-same F c (λ i. change (r + i)) (λ i. symbol size old i ⊕ symbol size new i) j change-inside
+        (component-same F c (λ i. difference size page after (r + i)) (λ i. symbol size old i ⊕ symbol size new i) j difference-inside
         ∙ component-sum F c (symbol size old) (symbol size new) j
         ∙ ap₂ (λ (x y : ℕ). component F x (symbol size old) j ⊕ component F y (symbol size new) j)
         (sym (symbols-whole size some old c old-whole)) (sym (symbols-whole size some new c new-whole))))

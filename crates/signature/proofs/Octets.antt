@@ -1,12 +1,13 @@
--- Symbols made of octets are elements of a field that is wide enough.
+-- Symbols made of octets are elements of a field that is wide enough, and so are the differences of two objects.
 -- Assumes nothing.
-use mathlib.Core.Path.{sym, subst}
+use mathlib.Core.Path.{_≡_, sym, ap, _∙_, subst}
 use mathlib.Core.List.{List}
 use Prim.Native.Nat.{ℕ, zero, suc, _+_, _*_, _^_, _≤_, _<_}
 use native.Mathlib.Nat.{pow-suc, mul-comm, zero-lt-suc, lt-of-lt-of-le, mul-le-mul-left, le-refl}
 use native.Mathlib.Omega.{arith}
 use lib.ListN.{getD}
-use Rattle.field.specs.Field.{Field, Element, GF16}
+use Rattle.field.specs.Field.{Field, Element, _⊕_, GF16}
+use Rattle.field.proofs.Sums.{sum-self, sum-lt}
 use Rattle.signature.specs.Objects.{Octets, lowFirst, symbol}
 
 low-first-lt : (size : ℕ) (bytes : List ℕ) (at : ℕ) → Octets bytes → lowFirst size bytes at < 256 ^ size
@@ -23,3 +24,18 @@ symbol-element F size wide bytes octets i = lt-of-lt-of-le (low-first-lt size by
 
 pub GF16-symbol : (bytes : List ℕ) → Octets bytes → (i : ℕ) → Element GF16 (symbol 2 bytes i)
 GF16-symbol = symbol-element GF16 2 (le-refl 65536)
+
+-- ---- how two objects differ, symbol by symbol
+
+unfoldable pub difference : ℕ → List ℕ → List ℕ → ℕ → ℕ
+difference size one other i = symbol size one i ⊕ symbol size other i
+
+pub difference-element : (F : Field) (size : ℕ) → 256 ^ size ≤ 2 ^ F .width → (one other : List ℕ) → Octets one → Octets other
+    → (i : ℕ) → Element F (difference size one other i)
+unfolding difference
+difference-element F size wide one other one-octets other-octets i =
+    sum-lt (F .width) (symbol-element F size wide one one-octets i) (symbol-element F size wide other other-octets i)
+
+pub same-difference : (size : ℕ) (one other : List ℕ) (i : ℕ) → symbol size one i ≡ symbol size other i → difference size one other i ≡ 0
+unfolding difference
+same-difference size one other i same = ap (λ (x : ℕ). symbol size one i ⊕ x) (sym same) ∙ sum-self (symbol size one i)
