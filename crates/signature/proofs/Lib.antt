@@ -10,4 +10,5 @@ pub mod Editing
 pub mod Edited
 pub mod Differing
 pub mod Detection
+pub mod EveryKind
 pub mod Answers

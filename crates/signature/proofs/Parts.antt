@@ -2,8 +2,8 @@
 -- Assumes nothing.
 use mathlib.Core.Path.{_≡_, refl, sym, ap, ap₂, _∙_, subst}
 use mathlib.Core.List.{List, _++_}
-use Prim.Native.Nat.{ℕ, zero, suc, _+_, _-_, _*_, _/_, _≤_, _<_, suc-le-suc}
-use native.Mathlib.Nat.{add-mul, add-assoc, add-zero, add-suc, suc-add, suc-mul, zero-lt-suc, mul-le-mul-right, mul-add-div-right, div-eq-of-lt, lt-suc-self}
+use Prim.Native.Nat.{ℕ, zero, suc, _+_, _-_, _*_, _/_, _%_, _≤_, _<_, suc-le-suc}
+use native.Mathlib.Nat.{add-mul, add-assoc, add-zero, add-suc, suc-add, suc-mul, zero-lt-suc, mul-le-mul-right, mul-add-div-right, div-eq-of-lt, div-add-mod', lt-suc-self}
 use native.Mathlib.Omega.{arith}
 use lib.ListN.{length, getD, length-append, List·getD-append}
 use lib.Seq.{getD-append-add}
@@ -48,6 +48,12 @@ symbols-whole size some bytes c whole =
     ∙ mul-add-div-right some c (size - 1)
     ∙ ap (λ (n : ℕ). c + n) (div-eq-of-lt {n = size - 1} {m = size} (omega arith))
     ∙ add-zero c
+
+-- bytes that leave no part of a symbol over
+pub whole-length : (size : ℕ) → 0 < size → (bytes : List ℕ) → length bytes % size ≡ 0 → length bytes ≡ symbols size bytes * size
+whole-length size some bytes even =
+    let whole : length bytes ≡ length bytes / size * size = omega (arith, div-add-mod' (length bytes) size) in
+    whole ∙ ap (λ (c : ℕ). c * size) (sym (symbols-whole size some bytes (length bytes / size) whole))
 
 -- ---- two parts end to end, the first one of a whole symbols
 

@@ -1,14 +1,14 @@
--- What sign, join and edit answer, for every input: the refusal of the first test that applies, and else the signature.
+-- What sign, join and edit answer, for every kind of symbol and every input: the refusal of the first test that applies, and else the signature.
 use Prim.Native.Nat.{ℕ, _+_, _%_}
 use mathlib.Core.Bool.{Bool, not, _&&_}
 use mathlib.Core.List.{List, [], _∷_}
-use lib.Dec.{eqb}
+use lib.Dec.{leb, eqb}
 use lib.ListN.{length}
 use Rattle.units.specs.declared.Verdict.{Verdict}
 use Rattle.units.specs.declared.Verdict.the-variants.{Allowed, Refused}
-use Rattle.units.specs.Sizes.{nAllowed, objectAllowed}
+use Rattle.units.specs.Sizes.{nAllowed}
 use Rattle.units.specs.Refusals.{Test, first, SIZE, LONG, ODD, MATCH}
-use Rattle.field.specs.Field.{GF16}
+use Rattle.signature.specs.Kinds.{Kind}
 use Rattle.signature.specs.Objects.{symbols}
 use Rattle.signature.specs.Signatures.{signature, joined, edited, handed, answered}
 use Rattle.signature.specs.declared.Signature.{Signature}
@@ -28,38 +28,45 @@ unless (Refused r) s = Answer.Refused r
 abbrev pub gives : ℕ → Bool → Test
 gives number applies = record { applies = applies; refusal = record { number = number; value = 0 } }
 
-abbrev pub whole : List ℕ → Bool
-whole bytes = eqb (length bytes % 2) 0
+module _ (K : Kind) where
+  -- symbols that an object may have
+  abbrev pub allowed : ℕ → Bool
+  allowed symbols = leb symbols (K .most)
 
-abbrev pub signTests : ℕ → List ℕ → List Test
-signTests n object = gives SIZE (not (nAllowed n)) ∷ gives LONG (not (objectAllowed (symbols 2 object))) ∷ []
+  abbrev pub whole : List ℕ → Bool
+  whole bytes = eqb (length bytes % K .size) 0
 
--- an object's own signature, as it is handed over
-abbrev pub own : ℕ → List ℕ → Signature
-own n object = answered n (signature GF16 2 object)
+  -- an object's own signature, as it is handed over
+  abbrev pub own : ℕ → List ℕ → Signature
+  own n object = answered n (signature (K .field) (K .size) object)
 
-abbrev pub signing : ℕ → List ℕ → Answer
-signing n object = unless (first (signTests n object)) (own n object)
+  abbrev pub signTests : ℕ → List ℕ → List Test
+  signTests n object = gives SIZE (not (nAllowed n)) ∷ gives LONG (not (allowed (symbols (K .size) object))) ∷ []
 
--- the first part has a symbols, the second b
-abbrev pub joinTests : Signature → ℕ → Signature → ℕ → List Test
-joinTests one a two b =
-    gives SIZE (not (nAllowed (one .n) && nAllowed (two .n)))
-    ∷ gives LONG (not (objectAllowed (a + b)))
-    ∷ gives MATCH (not (eqb (one .n) (two .n)))
-    ∷ []
+  abbrev pub signing : ℕ → List ℕ → Answer
+  signing n object = unless (first (signTests n object)) (own n object)
 
-abbrev pub joining : Signature → ℕ → Signature → ℕ → Answer
-joining one a two b = unless (first (joinTests one a two b)) (answered (one .n) (joined GF16 (handed one) a (handed two)))
+  -- the first part has a symbols, the second b
+  abbrev pub joinTests : Signature → ℕ → Signature → ℕ → List Test
+  joinTests one a two b =
+      gives SIZE (not (nAllowed (one .n) && nAllowed (two .n)))
+      ∷ gives LONG (not (allowed (a + b)))
+      ∷ gives MATCH (not (eqb (one .n) (two .n)))
+      ∷ []
 
-abbrev pub editTests : Signature → ℕ → List ℕ → List ℕ → List Test
-editTests s r old new =
-    gives SIZE (not (nAllowed (s .n)))
-    ∷ gives LONG (not (objectAllowed (r + symbols 2 old)))
-    ∷ gives ODD (not (whole old && whole new))
-    ∷ gives MATCH (not (eqb (length old) (length new)))
-    ∷ []
+  abbrev pub joining : Signature → ℕ → Signature → ℕ → Answer
+  joining one a two b = unless (first (joinTests one a two b)) (answered (one .n) (joined (K .field) (handed one) a (handed two)))
 
-abbrev pub editing : Signature → ℕ → List ℕ → List ℕ → Answer
-editing s r old new =
-    unless (first (editTests s r old new)) (answered (s .n) (edited GF16 (handed s) r (signature GF16 2 old) (signature GF16 2 new)))
+  -- from symbol r on, the old bytes are replaced by the new ones
+  abbrev pub editTests : Signature → ℕ → List ℕ → List ℕ → List Test
+  editTests s r old new =
+      gives SIZE (not (nAllowed (s .n)))
+      ∷ gives LONG (not (allowed (r + symbols (K .size) old)))
+      ∷ gives ODD (not (whole old && whole new))
+      ∷ gives MATCH (not (eqb (length old) (length new)))
+      ∷ []
+
+  abbrev pub editing : Signature → ℕ → List ℕ → List ℕ → Answer
+  editing s r old new =
+      unless (first (editTests s r old new))
+      (answered (s .n) (edited (K .field) (handed s) r (signature (K .field) (K .size) old) (signature (K .field) (K .size) new)))

@@ -7,6 +7,7 @@ ghost use Rattle.field.specs.Field.{GF16, α, _⊕_};
 ghost use Rattle.field.specs.Field.{product as Field·product, power as Field·power};
 ghost use Rattle.signature.specs.Objects.{symbol as Object·symbol, symbols as Object·symbols};
 ghost use Rattle.signature.specs.Signatures.{signature as Object·signature, joined, handed, answered, upTo};
+ghost use Rattle.signature.specs.Kinds.{wide};
 ghost use Rattle.signature.specs.Operations.{own as Object·own, signing, joining, editing};
 use units::Bytes;
 use units::Refusal;
@@ -27,7 +28,7 @@ pub enum Answer {
 }
 
 pub fn sign(n: usize, object: &[u8]) -> Answer
-    ensures { λ r. ⌜ r ≡ signing n (now (object .entry)) ⌝ }
+    ensures { λ r. ⌜ r ≡ signing wide n (now (object .entry)) ⌝ }
 {
     if !units::n_allowed(n) {
         return refused(Refusal::SIZE);
@@ -40,7 +41,7 @@ pub fn sign(n: usize, object: &[u8]) -> Answer
 
 // The first part has a symbols, the second b.
 pub fn join(one: Signature, a: Symbols, two: Signature, b: Symbols) -> Answer
-    ensures { λ r. ⌜ r ≡ joining one (a .count) two (b .count) ⌝ }
+    ensures { λ r. ⌜ r ≡ joining wide one (a .count) two (b .count) ⌝ }
 {
     if !units::n_allowed(one.n) {
         return refused(Refusal::SIZE);
@@ -59,7 +60,7 @@ pub fn join(one: Signature, a: Symbols, two: Signature, b: Symbols) -> Answer
 
 // From symbol r on, the old bytes are replaced by the new ones.
 pub fn edit(s: Signature, r: Symbols, old: &[u8], new: &[u8]) -> Answer
-    ensures { λ answer. ⌜ answer ≡ editing s (r .count) (now (old .entry)) (now (new .entry)) ⌝ }
+    ensures { λ answer. ⌜ answer ≡ editing wide s (r .count) (now (old .entry)) (now (new .entry)) ⌝ }
 {
     if !units::n_allowed(s.n) {
         return refused(Refusal::SIZE);
@@ -106,7 +107,7 @@ fn fits(a: Symbols, b: Symbols) -> bool
 
 // An object's own signature.
 fn own(n: usize, object: &[u8]) -> Signature
-    ensures { λ r. ⌜ r ≡ Object·own n (now (object .entry)) ⌝ }
+    ensures { λ r. ⌜ r ≡ Object·own wide n (now (object .entry)) ⌝ }
 {
     Signature {
         n,

@@ -4,6 +4,7 @@ use mathlib.Core.List.{List, [], _∷_}
 use lib.ListN.{take}
 use Rattle.signature.specs.declared.Answer.{Answer}
 use Rattle.signature.specs.declared.Answer.the-variants.{Signed, Refused}
+use Rattle.signature.specs.Kinds.{wide}
 use Rattle.signature.specs.Operations.{own, signing, joining, editing}
 
 pub record Row : Type 0 where
@@ -25,15 +26,15 @@ components (Signed s) = take (s .n) (s .s1 ∷ s .s2 ∷ s .s3 ∷ s .s4 ∷ [])
 components (Refused r) = []
 
 abbrev pub signed : ℕ → List ℕ → List ℕ
-signed n symbols = components (signing n (bytes symbols))
+signed n symbols = components (signing wide n (bytes symbols))
 
 abbrev pub rows : List Row
 rows =
     case 1 (signed 2 []) (0 ∷ 0 ∷ [])
     ∷ case 2 (signed 2 (1 ∷ 2 ∷ [])) (5 ∷ 9 ∷ [])
     ∷ case 3 (signed 2 (0 ∷ 0x8000 ∷ [])) (0x100B ∷ 0x2016 ∷ [])
-    ∷ case 4 (components (signing 2 (0x41 ∷ []))) (0x41 ∷ 0x41 ∷ [])
-    ∷ case 4 (components (signing 2 (0x41 ∷ 0x00 ∷ []))) (0x41 ∷ 0x41 ∷ [])
+    ∷ case 4 (components (signing wide 2 (0x41 ∷ []))) (0x41 ∷ 0x41 ∷ [])
+    ∷ case 4 (components (signing wide 2 (0x41 ∷ 0x00 ∷ []))) (0x41 ∷ 0x41 ∷ [])
     ∷ case 5 (signed 1 (2 ∷ 0 ∷ [])) (2 ∷ [])
     ∷ case 5 (signed 1 (0 ∷ 1 ∷ [])) (2 ∷ [])
     ∷ case 5 (signed 2 (2 ∷ 0 ∷ [])) (2 ∷ 2 ∷ [])
@@ -41,6 +42,6 @@ rows =
     ∷ case 6 (signed 2 (8 ∷ 6 ∷ 1 ∷ [])) (0 ∷ 0 ∷ [])
     ∷ case 6 (signed 2 (0 ∷ 0 ∷ 0 ∷ [])) (0 ∷ 0 ∷ [])
     ∷ case 6 (signed 3 (8 ∷ 6 ∷ 1 ∷ [])) (0 ∷ 0 ∷ 0x78 ∷ [])
-    ∷ case 7 (components (joining (own 2 (bytes (1 ∷ []))) 1 (own 2 (bytes (2 ∷ []))) 1)) (5 ∷ 9 ∷ [])
-    ∷ case 8 (components (editing (own 2 (bytes (1 ∷ 2 ∷ []))) 1 (bytes (2 ∷ [])) (bytes (3 ∷ [])))) (7 ∷ 0xD ∷ [])
+    ∷ case 7 (components (joining wide (own wide 2 (bytes (1 ∷ []))) 1 (own wide 2 (bytes (2 ∷ []))) 1)) (5 ∷ 9 ∷ [])
+    ∷ case 8 (components (editing wide (own wide 2 (bytes (1 ∷ 2 ∷ []))) 1 (bytes (2 ∷ [])) (bytes (3 ∷ [])))) (7 ∷ 0xD ∷ [])
     ∷ []

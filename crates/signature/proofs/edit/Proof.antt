@@ -9,6 +9,7 @@ use Rattle.units.specs.Sizes.{nAllowed, objectAllowed}
 use Rattle.field.specs.Field.{GF16, _⊕_, product, power, α}
 use Rattle.signature.specs.Objects.{symbols}
 use Rattle.signature.specs.Signatures.{signature, joined, edited, handed, answered}
+use Rattle.signature.specs.Kinds.{wide}
 use Rattle.signature.specs.Operations.{whole}
 use Rattle.signature.specs.declared.Signature.{Signature}
 use Rattle.signature.specs.declared.Answer.the-variants.{Signed}
@@ -29,10 +30,10 @@ within c =
     ∙ sym (c .before .fits2 .ensures)
     ∙ not-false _ (c .if2 .left)
 
-pieces : (c : tie.Else4) → whole (now (start (c .before .before) .args .old)) && whole (now (start (c .before .before) .args .new)) ≡ true
+pieces : (c : tie.Else4) → whole wide (now (start (c .before .before) .args .old)) && whole wide (now (start (c .before .before) .args .new)) ≡ true
 pieces c =
-    let old : whole (now (start (c .before .before) .args .old)) ≡ true = eq-eqb _ _ (c .before .if3 .left) in
-    let new : whole (now (start (c .before .before) .args .new)) ≡ true = eq-eqb _ _ (c .if4 .left) in
+    let old : whole wide (now (start (c .before .before) .args .old)) ≡ true = eq-eqb _ _ (c .before .if3 .left) in
+    let new : whole wide (now (start (c .before .before) .args .new)) ≡ true = eq-eqb _ _ (c .if4 .left) in
     simp (old, new)
 
 n-allowed-requires : tie.Need-n-allowed-requires
@@ -70,7 +71,7 @@ refused-requires-3 c κs = tt
 returns-3 : tie.Need-returns-3
 returns-3 c =
     let before : tie.Else2 = c .before .before in
-    let old : whole (now (start before .args .old)) ≡ false = ne-eqb _ _ (c .before .if3 .taken) in
+    let old : whole wide (now (start before .args .old)) ≡ false = ne-eqb _ _ (c .before .if3 .taken) in
     simp (size (before .before .before .before), within before, old) (c .refused3 .ensures)
 
 refused-requires-4 : tie.Need-refused-requires-4
@@ -79,8 +80,8 @@ refused-requires-4 c κs = tt
 returns-4 : tie.Need-returns-4
 returns-4 c =
     let before : tie.Else2 = c .before .before .before in
-    let old : whole (now (start before .args .old)) ≡ true = eq-eqb _ _ (c .before .before .if3 .left) in
-    let new : whole (now (start before .args .new)) ≡ false = ne-eqb _ _ (c .before .if4 .taken) in
+    let old : whole wide (now (start before .args .old)) ≡ true = eq-eqb _ _ (c .before .before .if3 .left) in
+    let new : whole wide (now (start before .args .new)) ≡ false = ne-eqb _ _ (c .before .if4 .taken) in
     simp (size (before .before .before .before), within before, old, new) (c .refused4 .ensures)
 
 refused-requires-5 : tie.Need-refused-requires-5
