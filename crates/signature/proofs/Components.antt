@@ -47,6 +47,14 @@ module _ (F : Field) where
   unfoldable pub from : ℕ → (ℕ → ℕ) → ℕ → ℕ → ℕ
   from m p j i = component F (m - i) (λ k. p (i + k)) j
 
+  pub from-end : (m : ℕ) (p : ℕ → ℕ) (j : ℕ) → from m p j m ≡ 0
+  unfolding from component total
+  from-end m p j = ap (λ (c : ℕ). component F c (λ k. p (m + k)) j) (sub-self m)
+
+  pub from-start : (m : ℕ) (p : ℕ → ℕ) (j : ℕ) → from m p j 0 ≡ component F m p j
+  unfolding from
+  from-start m p j = ap (λ (c : ℕ). component F c (λ k. p (0 + k)) j) (sub-zero m) ∙ component-same m (λ k. p (0 + k)) p j (λ i h. ap p (zero-add i))
+
   module _ (formed : Formed F) where
     -- a symbol moved up by a positions
     moved : (a i j : ℕ) {x : ℕ} → Element F x
@@ -66,14 +74,6 @@ module _ (F : Field) where
         ∙ sym (total-image (λ x. product F x (power F α (j * a))) (sum-product F (power F α (j * a))) b (λ i. product F (p (a + i)) (power F α (i * j)))))
 
     -- ---- Horner's rule
-
-    pub from-end : (m : ℕ) (p : ℕ → ℕ) (j : ℕ) → from m p j m ≡ 0
-    unfolding from component total
-    from-end m p j = ap (λ (c : ℕ). component F c (λ k. p (m + k)) j) (sub-self m)
-
-    pub from-start : (m : ℕ) (p : ℕ → ℕ) (j : ℕ) → from m p j 0 ≡ component F m p j
-    unfolding from
-    from-start m p j = ap (λ (c : ℕ). component F c (λ k. p (0 + k)) j) (sub-zero m) ∙ component-same m (λ k. p (0 + k)) p j (λ i h. ap p (zero-add i))
 
     pub from-turn : (m : ℕ) (p : ℕ → ℕ) (j i : ℕ) → i < m → Elements p → p i ⊕ product F (from m p j (suc i)) (power F α j) ≡ from m p j i
     unfolding from

@@ -1,11 +1,11 @@
 -- Sure detection: two objects of one length that differ in 1 to n symbols differ in one of the components 1 to n, and so in their n-symbol signatures.
 -- Assumes nothing.
-use mathlib.Core.Path.{_≡_, refl, sym, ap, ap₂, _∙_}
+use mathlib.Core.Path.{_≡_, sym, ap, ap₂, _∙_}
 use mathlib.Core.Logic.{_≢_, dite, ⊎-elim, _⊎_, inl, inr}
-use mathlib.Core.Bool.{Bool, false, not}
+use mathlib.Core.Bool.{not}
 use mathlib.Core.List.{List}
 use Prim.Native.Nat.{ℕ, zero, suc, _^_, _≤_, _<_}
-use native.Mathlib.Nat.{not-suc-le-zero, le-of-suc-le-suc, eq-or-lt-of-le, le-step, lt-suc-self, le-refl, le-trans, zero-lt-suc}
+use native.Mathlib.Nat.{not-suc-le-zero, le-of-suc-le-suc, eq-or-lt-of-le, le-step, le-refl, le-trans, zero-lt-suc}
 use native.Mathlib.Decide.{ℕ-discrete}
 use native.Mathlib.Omega.{arith}
 use lib.Dec.{eqb}
@@ -18,9 +18,10 @@ use Rattle.units.specs.Counts.{symbolsIn}
 use Rattle.signature.specs.Objects.{Octets, symbol, symbols}
 use Rattle.signature.specs.Signatures.{component, signature}
 use Rattle.signature.specs.Differences.{count, differing}
+use Rattle.signature.proofs.Counting.{count-le, count-none}
 use Rattle.signature.proofs.Components.{component-sum}
 use Rattle.signature.proofs.Octets.{difference, difference-element, same-difference}
-use Rattle.signature.proofs.Vanishing.{present, count-le, all-zero}
+use Rattle.signature.proofs.Vanishing.{present, all-zero}
 
 -- one of the components 1 to n is another
 abbrev pub Apart : ℕ → (ℕ → ℕ) → (ℕ → ℕ) → Type 0
@@ -36,11 +37,6 @@ apart-or-same (suc n) s t =
     (λ (e : s (suc n) ≡ t (suc n)). inr (λ j h. ⊎-elim (λ (q : j ≡ n). ap (λ k. s (suc k)) q ∙ e ∙ ap (λ k. t (suc k)) (sym q)) (same j) (eq-or-lt-of-le (le-of-suc-le-suc h))))
     (λ (d : s (suc n) ≢ t (suc n)). inl (suc n, zero-lt-suc n, le-refl (suc n), d)))
     (apart-or-same n s t)
-
-count-none : (m : ℕ) (f : ℕ → Bool) → ((i : ℕ) → i < m → f i ≡ false) → count m f ≡ 0
-unfolding count
-count-none zero f e = refl
-count-none (suc m) f e = simp (e m (lt-suc-self m), count-none m f (λ i h. e i (le-step h)))
 
 module _ (F : Field) (good : Passes F) (size : ℕ) (wide : 256 ^ size ≤ 2 ^ F .width) (one other : List ℕ)
     (one-octets : Octets one) (other-octets : Octets other) (lengths : length one ≡ length other) (short : symbols size one ≤ order F) where

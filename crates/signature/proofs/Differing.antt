@@ -1,11 +1,11 @@
 -- Objects of one length that differ in no symbol are one: so two that differ at all differ in at least one symbol.
 -- Assumes nothing.
-use mathlib.Core.Path.{_≡_, refl, sym, ap, _∙_}
-use mathlib.Core.Logic.{_≢_, dite, ⊎-elim}
-use mathlib.Core.Bool.{Bool, true, false, not, cond}
+use mathlib.Core.Path.{_≡_, sym, ap, _∙_}
+use mathlib.Core.Logic.{_≢_, dite}
+use mathlib.Core.Bool.{not}
 use mathlib.Core.List.{List}
 use Prim.Native.Nat.{ℕ, zero, suc, _+_, _-_, _*_, _/_, _%_, _≤_, _<_}
-use native.Mathlib.Nat.{not-suc-le-zero, le-of-suc-le-suc, eq-or-lt-of-le, suc-add, add-suc, add-zero, div-add-mod', mod-lt, pos-of-ne-zero, mul-le-mul-right}
+use native.Mathlib.Nat.{not-suc-le-zero, le-of-suc-le-suc, suc-add, add-suc, add-zero, div-add-mod', mod-lt, pos-of-ne-zero, mul-le-mul-right}
 use native.Mathlib.Decide.{decLt}
 use native.Mathlib.Omega.{arith}
 use lib.Dec.{eqb}
@@ -13,20 +13,8 @@ use lib.ListN.{length, getD}
 use lib.Seq.{ext-getD}
 use borrow.Author.Tests.{eqb-true, not-false}
 use Rattle.signature.specs.Objects.{Octets, lowFirst, symbol, symbols}
-use Rattle.signature.specs.Differences.{count, differing}
-
-last-false : (m : ℕ) (b : Bool) → m + cond b 1 0 ≡ 0 → b ≡ false
-last-false m true e = absurd (omega arith)
-last-false m false e = refl
-
-count-zero : (m : ℕ) (test : ℕ → Bool) → count m test ≡ 0 → (i : ℕ) → i < m → test i ≡ false
-unfolding count
-count-zero zero test e i h = absurd (not-suc-le-zero h)
-count-zero (suc m) test e i h =
-    ⊎-elim
-    (λ (q : i ≡ m). ap test q ∙ last-false (count m test) (test m) e)
-    (λ (l : i < m). count-zero m test (omega arith) i l)
-    (eq-or-lt-of-le (le-of-suc-le-suc h))
+use Rattle.signature.specs.Differences.{differing}
+use Rattle.signature.proofs.Counting.{count-zero}
 
 -- bytes below 256 are told by the number that they make
 digits-told : (x y p q : ℕ) → x < 256 → y < 256 → x + 256 * p ≡ y + 256 * q → (x ≡ y) × (p ≡ q)

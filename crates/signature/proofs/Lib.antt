@@ -1,5 +1,6 @@
 -- The laws of signatures, from sums and symbols up.
 pub mod Totals
+pub mod Counting
 pub mod Components
 pub mod Octets
 pub mod Handing

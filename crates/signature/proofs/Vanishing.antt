@@ -1,11 +1,11 @@
 -- Why few changes are never missed: if at most k of the symbols are not zero, and components 1 to k are all zero, then every symbol is zero.
 -- By induction on the positions: multiplied by the last position's power of α and added to the next component, a component loses its last symbol.
 -- Assumes nothing.
-use mathlib.Core.Path.{_≡_, refl, sym, ap, ap₂, _∙_, subst}
+use mathlib.Core.Path.{_≡_, sym, ap, ap₂, _∙_}
 use mathlib.Core.Logic.{_≢_, dite, ⊎-elim}
 use mathlib.Core.Bool.{Bool, true, false, not, cond}
 use Prim.Native.Nat.{ℕ, zero, suc, _+_, _*_, _≤_, _<_, suc-le-suc}
-use native.Mathlib.Nat.{not-suc-le-zero, le-of-suc-le-suc, le-of-lt, le-step, lt-suc-self, le-refl, zero-lt-suc, eq-or-lt-of-le, mul-suc, add-comm, lt-trans, le-trans, le-add-right}
+use native.Mathlib.Nat.{not-suc-le-zero, le-of-suc-le-suc, le-of-lt, le-step, zero-lt-suc, eq-or-lt-of-le, mul-suc, add-comm, lt-trans, le-trans, le-add-right}
 use native.Mathlib.Decide.{ℕ-discrete}
 use native.Mathlib.Omega.{arith}
 use lib.Dec.{eqb}
@@ -20,27 +20,12 @@ use Rattle.field.proofs.Orders.{powers-distinct, power-not-zero, no-zero-diviso
 use Rattle.signature.specs.Signatures.{total, component}
 use Rattle.signature.specs.Differences.{count}
 use Rattle.signature.proofs.Totals.{total-same, total-sum, total-image}
+use Rattle.signature.proofs.Counting.{count-le}
 use Rattle.signature.proofs.Components.{Elements, component-nothing}
 
 -- a symbol that counts
 abbrev pub present : (ℕ → ℕ) → ℕ → Bool
 present d i = not (eqb (d i) 0)
-
-cond-le : (f g : Bool) → (g ≡ false → f ≡ false) → cond f 1 0 ≤ cond g 1 0
-cond-le f true h = at f
-  where
-    at : (b : Bool) → cond b 1 0 ≤ 1
-    at true = le-refl 1
-    at false = le-step (le-refl 0)
-cond-le f false h = subst (λ (b : Bool). cond b 1 0 ≤ 0) (sym (h refl)) (le-refl 0)
-
-pub count-le : (m : ℕ) (f g : ℕ → Bool) → ((i : ℕ) → i < m → g i ≡ false → f i ≡ false) → count m f ≤ count m g
-unfolding count
-count-le zero f g h = le-refl 0
-count-le (suc m) f g h =
-    let before : count m f ≤ count m g = count-le m f g (λ i l. h i (le-step l)) in
-    let last : cond (f m) 1 0 ≤ cond (g m) 1 0 = cond-le (f m) (g m) (h m (lt-suc-self m)) in
-    omega arith
 
 module _ (F : Field) (good : Passes F) where
   a-power : (k : ℕ) → Element F (power F α k)

@@ -31,7 +31,7 @@ loop-holds c =
     let object : List ℕ = c .before .before .args .object .now in
     let all : c .symbols-in .result .count ≡ symbols 2 object = c .symbols-in .ensures in (
       omega arith,
-      sym (ap (rest object (c .before .before .args .j)) all ∙ from-end GF16 GF16-formed (symbols 2 object) (symbol 2 object) (c .before .before .args .j)),
+      sym (ap (rest object (c .before .before .args .j)) all ∙ from-end GF16 (symbols 2 object) (symbol 2 object) (c .before .before .args .j)),
     )
 
 sub-i : tie.Need-sub-i Inv-loop μ-loop
@@ -74,7 +74,7 @@ returns c =
     let none : c .before .loop .i ≡ 0 = omega arith in
     c .before .loop .inv .1
     ∙ ap (rest object (args .j)) none
-    ∙ from-start GF16 GF16-formed (symbols 2 object) (symbol 2 object) (args .j)
+    ∙ from-start GF16 (symbols 2 object) (symbol 2 object) (args .j)
 
 pub component-spec : {M : Type 1} → statement M
 component-spec =
