@@ -52,8 +52,8 @@ sign-beyond n h l object long =
 
 -- ---- a join of two parts, an edit of a page
 
-pub join-of-parts : (n : ℕ) (one two : List ℕ) → Octets two → length one % 2 ≡ 0
-    → joining wide (own wide n one) (symbols 2 one) (own wide n two) (symbols 2 two) ≡ signing wide n (one ++ two)
+pub join-of-parts : (n : ℕ) (first second : List ℕ) → Octets second → length first % 2 ≡ 0
+    → joining wide (own wide n first) (symbols 2 first) (own wide n second) (symbols 2 second) ≡ signing wide n (first ++ second)
 join-of-parts = Every.join-of-parts wide Every.wide-sound
 
 pub edit-of-page : (n : ℕ) (page after : List ℕ) (r : ℕ) (old new : List ℕ) → Edited 2 page after r old new

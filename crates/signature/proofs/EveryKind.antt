@@ -24,7 +24,7 @@ use Rattle.field.proofs.Instances.{GF16-passes}
 use Rattle.signature.specs.Objects.{Octets, symbols}
 use Rattle.signature.specs.Signatures.{signature, joined, edited, handed, answered}
 use Rattle.signature.specs.Kinds.{Kind, wide}
-use Rattle.signature.specs.Operations.{told, unless, own, signTests, signing, joinTests, joining, editTests, editing}
+use Rattle.signature.specs.Operations.{told, unless, decided, own, signTests, signing, joinTests, joining, editTests, editing}
 use Rattle.signature.specs.Differences.{differing}
 use Rattle.signature.specs.Edits.{Edited}
 use Rattle.signature.specs.declared.Signature.{Signature}
@@ -51,7 +51,7 @@ told-unless : (v : Verdict) (s : Signature) → told (unless v s) ≡ v
 told-unless Verdict.Allowed s = refl
 told-unless (Verdict.Refused r) s = refl
 
-refused-when : (ts : List Test) → T (ascending ts) → (s : Signature) (r : Refusal) → (told (unless (first ts) s) ≡ Verdict.Refused r) ↔ Lowest ts r
+refused-when : (ts : List Test) → T (ascending ts) → (s : Signature) (r : Refusal) → (told (decided ts s) ≡ Verdict.Refused r) ↔ Lowest ts r
 refused-when ts up s r =
     (λ p. lowest-given ts up r .0 (sym (told-unless (first ts) s) ∙ p), λ g. told-unless (first ts) s ∙ lowest-given ts up r .1 g)
 

@@ -24,6 +24,10 @@ abbrev pub unless : Verdict → Signature → Answer
 unless Allowed s = Answer.Signed s
 unless (Refused r) s = Answer.Refused r
 
+-- the refusal of the first test that applies, and else the signature
+abbrev pub decided : List Test → Signature → Answer
+decided tests s = unless (first tests) s
+
 -- a test whose refusal has the value 0
 abbrev pub gives : ℕ → Bool → Test
 gives number applies = record { applies = applies; refusal = record { number = number; value = 0 } }
@@ -44,18 +48,18 @@ module _ (K : Kind) where
   signTests n object = gives SIZE (not (nAllowed n)) ∷ gives LONG (not (allowed (symbols (K .size) object))) ∷ []
 
   abbrev pub signing : ℕ → List ℕ → Answer
-  signing n object = unless (first (signTests n object)) (own n object)
+  signing n object = decided (signTests n object) (own n object)
 
   -- the first part has a symbols, the second b
   abbrev pub joinTests : Signature → ℕ → Signature → ℕ → List Test
-  joinTests one a two b =
-      gives SIZE (not (nAllowed (one .n) && nAllowed (two .n)))
+  joinTests first a second b =
+      gives SIZE (not (nAllowed (first .n) && nAllowed (second .n)))
       ∷ gives LONG (not (allowed (a + b)))
-      ∷ gives MATCH (not (eqb (one .n) (two .n)))
+      ∷ gives MATCH (not (eqb (first .n) (second .n)))
       ∷ []
 
   abbrev pub joining : Signature → ℕ → Signature → ℕ → Answer
-  joining one a two b = unless (first (joinTests one a two b)) (answered (one .n) (joined (K .field) (handed one) a (handed two)))
+  joining first a second b = decided (joinTests first a second b) (answered (first .n) (joined (K .field) (handed first) a (handed second)))
 
   -- from symbol r on, the old bytes are replaced by the new ones
   abbrev pub editTests : Signature → ℕ → List ℕ → List ℕ → List Test
@@ -68,5 +72,5 @@ module _ (K : Kind) where
 
   abbrev pub editing : Signature → ℕ → List ℕ → List ℕ → Answer
   editing s r old new =
-      unless (first (editTests s r old new))
+      decided (editTests s r old new)
       (answered (s .n) (edited (K .field) (handed s) r (signature (K .field) (K .size) old) (signature (K .field) (K .size) new)))

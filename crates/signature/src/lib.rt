@@ -40,22 +40,22 @@ pub fn sign(n: usize, object: &[u8]) -> Answer
 }
 
 // The first part has a symbols, the second b.
-pub fn join(one: Signature, a: Symbols, two: Signature, b: Symbols) -> Answer
-    ensures { λ r. ⌜ r ≡ joining wide one (a .count) two (b .count) ⌝ }
+pub fn join(first: Signature, a: Symbols, second: Signature, b: Symbols) -> Answer
+    ensures { λ r. ⌜ r ≡ joining wide first (a .count) second (b .count) ⌝ }
 {
-    if !units::n_allowed(one.n) {
+    if !units::n_allowed(first.n) {
         return refused(Refusal::SIZE);
     }
-    if !units::n_allowed(two.n) {
+    if !units::n_allowed(second.n) {
         return refused(Refusal::SIZE);
     }
     if !fits(a, b) {
         return refused(Refusal::LONG);
     }
-    if one.n != two.n {
+    if first.n != second.n {
         return refused(Refusal::MATCH);
     }
-    Answer::Signed(added_at(one, a, two))
+    Answer::Signed(added_at(first, a, second))
 }
 
 // From symbol r on, the old bytes are replaced by the new ones.

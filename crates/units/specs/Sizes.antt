@@ -12,8 +12,11 @@ abbrev pub pageAllowed : ℕ → Bool
 pageAllowed bytes = eqb (bytes % 2) 0 && leb 2 bytes && leb bytes 65536
 
 -- symbols of an object that is signed, joined or edited
+abbrev pub objectMost : ℕ
+objectMost = 65534
+
 abbrev pub objectAllowed : ℕ → Bool
-objectAllowed symbols = leb symbols 65534
+objectAllowed symbols = leb symbols objectMost
 
 -- bytes and pages of a bucket
 abbrev pub bucketAllowed : ℕ → ℕ → Bool

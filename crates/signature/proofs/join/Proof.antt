@@ -9,13 +9,13 @@ use Rattle.signature.specs.declared.Answer.the-variants.{Signed}
 use Rattle.signature.proofs.join.Statement.{statement}
 use Rattle.signature.proofs.join.Tie as tie
 
-one-allowed : (c : tie.Else1) → nAllowed (c .before .before .args .one .n) ≡ true
-one-allowed c = sym (c .before .n-allowed .ensures) ∙ not-false _ (c .if1 .left)
+first-allowed : (c : tie.Else1) → nAllowed (c .before .before .args .first .n) ≡ true
+first-allowed c = sym (c .before .n-allowed .ensures) ∙ not-false _ (c .if1 .left)
 
-both-allowed : (c : tie.Else2) → nAllowed (c .before .before .before .before .args .one .n) && nAllowed (c .before .before .before .before .args .two .n) ≡ true
+both-allowed : (c : tie.Else2) → nAllowed (c .before .before .before .before .args .first .n) && nAllowed (c .before .before .before .before .args .second .n) ≡ true
 both-allowed c =
-    let two : nAllowed (c .before .before .before .before .args .two .n) ≡ true = sym (c .before .n-allowed2 .ensures) ∙ not-false _ (c .if2 .left) in
-    simp (one-allowed (c .before .before), two)
+    let second : nAllowed (c .before .before .before .before .args .second .n) ≡ true = sym (c .before .n-allowed2 .ensures) ∙ not-false _ (c .if2 .left) in
+    simp (first-allowed (c .before .before), second)
 
 within : (c : tie.Else3)
     → objectAllowed (c .before .before .before .before .before .before .args .a .count + c .before .before .before .before .before .before .args .b .count) ≡ true
@@ -29,8 +29,8 @@ refused-requires c κs = tt
 
 returns : tie.Need-returns
 returns c =
-    let one : nAllowed (c .before .before .before .args .one .n) ≡ false = sym (c .before .before .n-allowed .ensures) ∙ not-true _ (c .before .if1 .taken) in
-    simp one (c .refused .ensures)
+    let first : nAllowed (c .before .before .before .args .first .n) ≡ false = sym (c .before .before .n-allowed .ensures) ∙ not-true _ (c .before .if1 .taken) in
+    simp first (c .refused .ensures)
 
 n-allowed-requires-2 : tie.Need-n-allowed-requires-2
 n-allowed-requires-2 c κs = tt
@@ -40,9 +40,9 @@ refused-requires-2 c κs = tt
 
 returns-2 : tie.Need-returns-2
 returns-2 c =
-    let two : nAllowed (c .before .before .before .before .before .args .two .n) ≡ false =
+    let second : nAllowed (c .before .before .before .before .before .args .second .n) ≡ false =
     sym (c .before .before .n-allowed2 .ensures) ∙ not-true _ (c .before .if2 .taken) in
-    simp (one-allowed (c .before .before .before), two) (c .refused2 .ensures)
+    simp (first-allowed (c .before .before .before), second) (c .refused2 .ensures)
 
 fits-requires : tie.Need-fits-requires
 fits-requires c κs = tt
