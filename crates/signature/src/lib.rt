@@ -105,8 +105,8 @@ fn fits(a: Symbols, b: Symbols) -> bool
     b.count <= units::OBJECT_SYMBOLS_MOST - a.count
 }
 
-// An object's own signature.
-fn own(n: usize, object: &[u8]) -> Signature
+// An object's own signature, of any length.
+pub fn own(n: usize, object: &[u8]) -> Signature
     ensures { λ r. ⌜ r ≡ Object·own wide n (now (object .entry)) ⌝ }
 {
     Signature {

@@ -1,3 +1,5 @@
 -- The laws that belong to no one function.
 pub mod Moduli
+pub mod Pieces
 pub mod Refusing
+pub mod Writing

@@ -75,6 +75,20 @@ none-applies (t ∷ ts) q = simp (q .0) (none-applies ts (q .1))
 pub allowed-when : (ts : List Test) → (first ts ≡ Allowed) ↔ Quiet ts
 allowed-when ts = (all-quiet ts, none-applies ts)
 
+-- tests after tests: the later ones count where no earlier one applies
+
+pub first-after : (ts us : List Test) → first ts ≡ Allowed → first (ts ++ us) ≡ first us
+first-after [] us p = refl
+first-after (t ∷ ts) us p = let q : _ = all-quiet (t ∷ ts) p in simp (q .0) (first-after ts us (none-applies ts (q .1)))
+
+pub first-before : (ts us : List Test) (r : Refusal) → first ts ≡ Refused r → first (ts ++ us) ≡ Refused r
+first-before [] us r p = absurd (allowed-not-refused r p)
+first-before (t ∷ ts) us r p = at (t .applies) refl (first-before ts us r)
+  where
+    at : (b : Bool) → t .applies ≡ b → (first ts ≡ Refused r → first (ts ++ us) ≡ Refused r) → first ((t ∷ ts) ++ us) ≡ Refused r
+    at true e rest = simp e (simp e at p)
+    at false e rest = simp e (rest (simp e at p))
+
 -- ---- tests in the table's order
 
 -- every number in the list is above n

@@ -1,9 +1,16 @@
--- How counts turn into each other: bytes, symbols, and an exponent of α. `size` is the number of bytes that a symbol has.
+-- How counts turn into each other: bytes, symbols, pages, and an exponent of α. `size` is the number of bytes that a symbol has.
 use Prim.Native.Nat.{ℕ, _+_, _-_, _*_, _/_, _%_, _^_, min}
 
--- rounded up: a part of a symbol counts as a whole one
+-- rounded up: a part of a piece counts as a whole one
+abbrev pub pieces : ℕ → ℕ → ℕ
+pieces size bytes = (bytes + (size - 1)) / size
+
 abbrev pub symbolsIn : ℕ → ℕ → ℕ
-symbolsIn size bytes = (bytes + (size - 1)) / size
+symbolsIn size bytes = pieces size bytes
+
+-- pages of a bucket, by the bytes of a page
+abbrev pub pagesIn : ℕ → ℕ → ℕ
+pagesIn page bucket = pieces page bucket
 
 -- cut off at the largest number that a machine word holds
 abbrev pub bytesIn : ℕ → ℕ → ℕ

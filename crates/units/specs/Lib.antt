@@ -2,3 +2,4 @@
 pub mod Counts
 pub mod Sizes
 pub mod Refusals
+pub mod Writing

@@ -1,6 +1,6 @@
 // Counts that carry their own name, the sizes that are allowed, and a refusal's number with the value beside it.
 ghost use mathlib.Core.Path.{_≡_};
-ghost use Rattle.units.specs.Counts.{symbolsIn, bytesIn, exponentAt};
+ghost use Rattle.units.specs.Counts.{symbolsIn, bytesIn, pagesIn, exponentAt};
 ghost use Rattle.units.specs.Sizes.{nAllowed, pageAllowed, objectAllowed, bucketAllowed, captionAllowed};
 
 pub struct Bytes {
@@ -36,6 +36,21 @@ pub fn bytes_of(s: Symbols) -> Bytes
             count: 0xFFFF_FFFF_FFFF_FFFF,
         }
     }
+}
+
+// The last page may be short. Where a page has no bytes there are no pages.
+pub fn pages_of(page: Bytes, bucket: Bytes) -> usize
+    ensures { λ r. ⌜ r ≡ pagesIn (page .count) (bucket .count) ⌝ }
+{
+    let size = page.count;
+    if size == 0 {
+        return 0;
+    }
+    let rest = bucket.count % size;
+    if rest == 0 {
+        return bucket.count / size;
+    }
+    bucket.count / size + 1
 }
 
 // The exponent of α at a position in a component's sum.

@@ -1,0 +1,43 @@
+-- The rules of a map's entries, one turn of them: an entry that is due, one that is not, and the end of the file.
+-- Assumes nothing.
+use mathlib.Core.Path.{_≡_, ap}
+use mathlib.Core.Bool.{true, false}
+use mathlib.Core.List.{List}
+use Prim.Native.Nat.{ℕ, zero, suc, _+_, _*_, _≤_, _<_, _^_, _-_, min}
+use native.Mathlib.Omega.{arith}
+use lib.ListN.{length}
+use borrow.Author.Tests.{lt-leb, le-leb}
+use Rattle.units.specs.Counts.{bytesIn}
+use Rattle.units.specs.Refusals.{first, MAP}
+use Rattle.units.specs.declared.Verdict.the-variants.{Allowed, Refused}
+use Rattle.map.specs.Files.{entryBytes}
+use Rattle.map.specs.Reading.{long, rule, fieldAt, isDue, entryTests}
+use Rattle.map.proofs.Fields.{Due, is-due, due-is}
+
+pub entry-rule : (n : ℕ) → n ≤ 4 → rule n 4 ≡ long (2 * n)
+entry-rule n small = let size : bytesIn 2 n ≡ 2 * n = omega arith in ap long size
+
+module _ (n : ℕ) (bytes : List ℕ) where
+  pub entry-kept : (m at : ℕ) → isDue 4 (fieldAt n bytes at) ≡ true
+      → first (entryTests n bytes (suc m) at) ≡ first (entryTests n bytes m (at + entryBytes n))
+  unfolding entryTests
+  entry-kept m at e = simp e
+
+  pub entry-broken : (m at : ℕ) → isDue 4 (fieldAt n bytes at) ≡ false
+      → first (entryTests n bytes (suc m) at) ≡ Refused (record { number = MAP; value = at })
+  unfolding entryTests
+  entry-broken m at e = simp e
+
+  pub end-kept : (at : ℕ) → length bytes ≤ at → first (entryTests n bytes 0 at) ≡ Allowed
+  unfolding entryTests
+  end-kept at e = simp (le-leb _ _ e)
+
+  pub end-broken : (at : ℕ) → at < length bytes → first (entryTests n bytes 0 at) ≡ Refused (record { number = MAP; value = at })
+  unfolding entryTests
+  end-broken at e = simp (lt-leb _ _ e)
+
+  pub entry-due : n ≤ 4 → (at : ℕ) → isDue 4 (fieldAt n bytes at) ≡ true → Due 4 (2 * n) bytes at
+  entry-due small at e = is-due n 4 (2 * n) bytes at (entry-rule n small) e
+
+  pub due-entry : n ≤ 4 → (at : ℕ) → Due 4 (2 * n) bytes at → isDue 4 (fieldAt n bytes at) ≡ true
+  due-entry small at d = due-is n 4 (2 * n) bytes at (entry-rule n small) d

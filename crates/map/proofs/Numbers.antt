@@ -1,0 +1,77 @@
+-- Numbers of several bytes, low byte first: how they are put together, and that reading and writing them undo each other.
+-- Assumes nothing.
+use mathlib.Core.Path.{_≡_, refl, sym, ap, ap₂, _∙_}
+use mathlib.Core.List.{List, [], _∷_, _++_}
+use Prim.Native.Nat.{ℕ, zero, suc, _+_, _*_, _/_, _%_, _^_, _≤_, _<_}
+use native.Mathlib.Nat.{add-zero, add-suc, suc-add, zero-add, pow-suc, div-div-eq-div-mul}
+use native.Mathlib.Numerals.{add-one}
+use native.Mathlib.Omega.{arith}
+use lib.ListN.{length, getD, take, drop}
+use lib.Seq.{drop-cons, getD-drop, drop-append-seam}
+use Rattle.signature.specs.Objects.{Octets, lowFirst}
+use Rattle.map.specs.Numbers.{lowBytes}
+
+-- ---- reading
+
+pub one-byte : (bytes : List ℕ) (at : ℕ) → lowFirst 1 bytes at ≡ getD bytes at 0
+unfolding lowFirst
+one-byte bytes at = add-zero (getD bytes at 0)
+
+pub two-bytes : (bytes : List ℕ) (at : ℕ) → lowFirst 2 bytes at ≡ getD bytes at 0 + getD bytes (at + 1) 0 * 256
+unfolding lowFirst
+two-bytes bytes at = rw add-one (omega arith)
+
+pub four-bytes : (bytes : List ℕ) (at : ℕ) → lowFirst 4 bytes at ≡ lowFirst 2 bytes at + lowFirst 2 bytes (at + 2) * 65536
+unfolding lowFirst
+four-bytes bytes at =
+    let up : at + 2 ≡ suc (suc at) = omega arith in
+    rw up (omega arith)
+
+-- a number is made of what stands from its place on
+pub low-first-drop : (size : ℕ) (bytes : List ℕ) (at i : ℕ) → lowFirst size bytes (at + i) ≡ lowFirst size (drop at bytes) i
+unfolding lowFirst
+low-first-drop zero bytes at i = refl
+low-first-drop (suc size) bytes at i =
+    ap₂ (λ (x y : ℕ). x + 256 * y) (sym (getD-drop at bytes i 0)) (ap (lowFirst size bytes) (sym (add-suc at i)) ∙ low-first-drop size bytes at (suc i))
+
+pub low-first-after : (size : ℕ) (front rest : List ℕ) (i : ℕ) → lowFirst size (front ++ rest) (length front + i) ≡ lowFirst size rest i
+low-first-after size front rest i =
+    low-first-drop size (front ++ rest) (length front) i ∙ ap (λ (l : List ℕ). lowFirst size l i) (drop-append-seam front rest)
+
+pub low-first-below : (size : ℕ) (bytes : List ℕ) (at : ℕ) → Octets bytes → lowFirst size bytes at < 256 ^ size
+unfolding lowFirst
+low-first-below zero bytes at octets = omega arith
+low-first-below (suc size) bytes at octets =
+    let rest : lowFirst size bytes (suc at) < 256 ^ size = low-first-below size bytes (suc at) octets in
+    omega (arith, octets at, pow-suc 256 size)
+
+-- ---- writing
+
+pub low-bytes-length : (size x : ℕ) → length (lowBytes size x) ≡ size
+unfolding lowBytes
+low-bytes-length zero x = refl
+low-bytes-length (suc size) x = ap suc (low-bytes-length size (x / 256))
+
+pub low-bytes-halves : (x : ℕ) → lowBytes 4 x ≡ lowBytes 2 x ++ lowBytes 2 (x / 65536)
+unfolding lowBytes
+low-bytes-halves x = simp (div-div-eq-div-mul)
+
+-- ---- and back
+
+pub written-read : (size x : ℕ) (rest : List ℕ) → x < 256 ^ size → lowFirst size (lowBytes size x ++ rest) 0 ≡ x
+unfolding lowFirst lowBytes
+written-read zero x rest small = omega arith
+written-read (suc size) x rest small =
+    let fewer : x / 256 < 256 ^ size = omega (arith, pow-suc 256 size) in
+    let behind : lowFirst size (x % 256 ∷ (lowBytes size (x / 256) ++ rest)) 1 ≡ x / 256 =
+    low-first-drop size (x % 256 ∷ (lowBytes size (x / 256) ++ rest)) 1 0 ∙ written-read size (x / 256) rest fewer in
+    omega arith
+
+pub read-written : (size : ℕ) (bytes : List ℕ) (at : ℕ) → Octets bytes → at + size ≤ length bytes → lowBytes size (lowFirst size bytes at) ≡ take size (drop at bytes)
+unfolding lowFirst lowBytes
+read-written zero bytes at octets inside = refl
+read-written (suc size) bytes at octets inside =
+    let here : at < length bytes = omega arith in
+    let low : (getD bytes at 0 + 256 * lowFirst size bytes (suc at)) % 256 ≡ getD bytes at 0 = omega (arith, octets at) in
+    let high : (getD bytes at 0 + 256 * lowFirst size bytes (suc at)) / 256 ≡ lowFirst size bytes (suc at) = omega (arith, octets at) in
+    rw (drop-cons bytes at 0 here) (ap₂ {C = List ℕ} (λ x l. x ∷ l) low (ap (lowBytes size) high ∙ read-written size bytes (suc at) octets (omega arith)))

@@ -1,0 +1,28 @@
+use Rattle.map.specs.declared.Field.the-variants.{Formed, Broken}
+use Rattle.map.specs.declared.Field.{Field}
+use Rattle.map.specs.Reading.{fieldAt, isDue}
+use mathlib.Core.Path.{_≡_, sym, ap, _∙_}
+use borrow.Author.Needs.{needs}
+use Rattle.map.proofs.due.Statement.{statement}
+use Rattle.map.proofs.due.Tie as tie
+use Rattle.map.proofs.due.Reads as reads
+use Rattle.map.proofs.due.Lts as lts
+use Rattle.map.proofs.field_at.Reads as field-at-reads
+
+field-at-requires : tie.Need-field-at-requires
+field-at-requires c κs = search needs
+
+enum-known-f : tie.Need-enum-known-f
+enum-known-f c = search needs
+
+enum-told : tie.Need-enum-told
+enum-told c = search needs
+
+returns : tie.Need-returns
+returns c = sym (ap (isDue (c .before .before .before .before .args .tag)) (sym (c .before .before .field-at .ensures) ∙ c .enum-told .given .1))
+
+returns-2 : tie.Need-returns-2
+returns-2 c = sym (ap (isDue (c .before .before .before .before .before .before .args .tag)) (sym (c .before .before .before .before .field-at .ensures) ∙ c .before .before .f .given .1))
+
+pub due-spec : {M : Type 1} → statement M
+due-spec = tie.close (tie.spec field-at-requires enum-known-f enum-told returns returns-2)

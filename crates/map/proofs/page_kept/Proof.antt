@@ -1,0 +1,42 @@
+use Rattle.map.proofs.Fields.{Due, is-due}
+use Rattle.map.specs.Reading.{fieldAt, isDue, headerOf}
+use Rattle.units.specs.Sizes.{pageAllowed}
+use borrow.Author.Tests.{not-true, not-false}
+use native.Mathlib.Omega.{arith}
+use mathlib.Core.Bool.{true, false}
+use mathlib.Core.Path.{_≡_, refl, sym, ap, _∙_}
+use borrow.Author.Needs.{needs}
+use Rattle.map.proofs.page_kept.Statement.{statement}
+use Rattle.map.proofs.page_kept.Tie as tie
+use Rattle.map.proofs.page_kept.Reads as reads
+use Rattle.map.proofs.page_kept.Lts as lts
+use Rattle.map.proofs.due.Reads as due-reads
+use Rattle.map.proofs.four_bytes.Reads as four-bytes-reads
+use Rattle.units.proofs.page_allowed.Reads as page-allowed-reads
+
+due-requires : tie.Need-due-requires
+due-requires c κs = search needs
+
+returns : tie.Need-returns
+returns c =
+    let no : isDue 2 (fieldAt 0 (c .before .before .before .args .map .now) 4) ≡ false = sym (c .before .due .ensures) ∙ not-true _ (c .if1 .taken) in
+    simp no
+
+four-bytes-requires : tie.Need-four-bytes-requires
+four-bytes-requires c κs =
+    let yes : isDue 2 (fieldAt 0 (c .before .before .before .args .map .now) 4) ≡ true = sym (c .before .due .ensures) ∙ not-false _ (c .if1 .left) in
+    let d : Due 2 4 (c .before .before .before .args .map .now) 4 = is-due 0 2 4 _ 4 refl yes in
+    omega arith
+
+page-allowed-requires : tie.Need-page-allowed-requires
+page-allowed-requires c κs = search needs
+
+returns-2 : tie.Need-returns-2
+unfolding headerOf
+returns-2 c =
+    let yes : isDue 2 (fieldAt 0 (c .before .before .before .before .before .args .map .now) 4) ≡ true = sym (c .before .before .before .due .ensures) ∙ not-false _ (c .before .before .if1 .left) in
+    simp yes (c .page-allowed .ensures ∙ ap pageAllowed (c .before .four-bytes .ensures))
+
+pub page-kept-spec : {M : Type 1} → statement M
+page-kept-spec =
+    tie.close (tie.spec due-requires returns four-bytes-requires page-allowed-requires returns-2)

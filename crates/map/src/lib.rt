@@ -1,0 +1,215 @@
+// The signature map of a bucket: its file read field by field, one entry read and written, and the whole map made.
+ghost use mathlib.Core.Path.{_≡_};
+ghost use Prim.Native.Nat.{_+_, _*_, _<_, _≤_};
+ghost use lib.ListN.{length, take, drop};
+ghost use Rattle.units.specs.Writing.{written};
+ghost use Rattle.signature.specs.Objects.{lowFirst};
+ghost use Rattle.signature.specs.Signatures.{handed, upTo};
+ghost use Rattle.map.specs.Numbers.{lowBytes};
+ghost use Rattle.map.specs.Buckets.{pageAt};
+ghost use Rattle.map.specs.Files.{entries, header as File·header, components as File·components, entry as File·entry, pages as Header·pages, place as File·place, entryBytes, fileBytes};
+ghost use Rattle.map.specs.Reading.{fieldAt, underRule, long, isDue, headerOf, headerTests, entryTests, told, reading, entryAt, nKept, pageKept, bucketKept};
+ghost use Rattle.map.specs.Making.{madeEntry, making, Outcome};
+ghost use Rattle.units.specs.Refusals.{first};
+use signature::Signature;
+use units::Bytes;
+use units::Refusal;
+use units::Symbols;
+
+pub struct Header {
+    pub n: usize,
+    pub page: Bytes,
+    pub bucket: Bytes,
+}
+
+// One page's field: its tag, and the page's components.
+pub struct Entry {
+    pub tag: u8,
+    pub signature: Signature,
+}
+
+// A field that keeps its tag's rule: where its value stands, and where the next field begins.
+pub struct Tagged {
+    pub tag: u8,
+    pub value: usize,
+    pub next: usize,
+}
+
+pub enum Field {
+    Formed(Tagged),
+    Broken,
+}
+
+pub enum Reading {
+    Holds(Header),
+    // the place of the first break
+    Breaks(usize),
+}
+
+pub enum Made {
+    Written(Bytes),
+    Refused(Refusal),
+}
+
+// The field whose tag stands at a place, in a map of n components.
+pub fn field_at(n: usize, map: &[u8], at: usize) -> Field
+    ensures { λ r. ⌜ r ≡ fieldAt n (now (map .entry)) at ⌝ }
+{
+    if map.len() < 3 {
+        return Field::Broken;
+    }
+    if at > map.len() - 3 {
+        return Field::Broken;
+    }
+    let tag = map[at];
+    match tag {
+        0 => Field::Broken,
+        1 => under_rule(1, map, at),
+        2 | 3 => under_rule(4, map, at),
+        4 => under_rule(units::bytes_of(Symbols { count: n }).count, map, at),
+        5..=255 => Field::Broken,
+    }
+}
+
+// The field by its rule: the length due, and a value that is not cut off.
+fn under_rule(size: usize, map: &[u8], at: usize) -> Field
+    requires { ⌜ at + 3 ≤ length (now map) ⌝ }
+    ensures { λ r. ⌜ r ≡ underRule (long size) (now (map .entry)) at ⌝ }
+{
+    if two_bytes(map, at + 1) != size {
+        return Field::Broken;
+    }
+    let value = at + 3;
+    if size > map.len() - value {
+        return Field::Broken;
+    }
+    Field::Formed(Tagged {
+        tag: map[at],
+        value,
+        next: value + size,
+    })
+}
+
+fn two_bytes(map: &[u8], at: usize) -> usize
+    requires { ⌜ at + 2 ≤ length (now map) ⌝ }
+    ensures { λ r. ⌜ r ≡ lowFirst 2 (now (map .entry)) at ⌝ }
+{
+    map[at] as usize + map[at + 1] as usize * 256
+}
+
+fn four_bytes(map: &[u8], at: usize) -> usize
+    requires { ⌜ at + 4 ≤ length (now map) ⌝ }
+    ensures { λ r. ⌜ r ≡ lowFirst 4 (now (map .entry)) at ⌝ }
+{
+    two_bytes(map, at) + two_bytes(map, at + 2) * 65536
+}
+
+// Whether the field at a place keeps its rule and has the tag that is due there.
+fn due(tag: u8, n: usize, map: &[u8], at: usize) -> bool
+    ensures { λ r. ⌜ r ≡ isDue tag (fieldAt n (now (map .entry)) at) ⌝ }
+{
+    let Field::Formed(f) = field_at(n, map, at) else {
+        return false;
+    };
+    f.tag == tag
+}
+
+// What stands in the places of the header's three values.
+fn header_of(map: &[u8]) -> Header
+    requires { ⌜ 18 ≤ length (now map) ⌝ }
+    ensures { λ r. ⌜ r ≡ headerOf (now (map .entry)) ⌝ }
+{
+    Header {
+        n: map[3] as usize,
+        page: Bytes {
+            count: four_bytes(map, 7),
+        },
+        bucket: Bytes {
+            count: four_bytes(map, 14),
+        },
+    }
+}
+
+pub fn pages(h: Header) -> usize
+    ensures { λ r. ⌜ r ≡ Header·pages h ⌝ }
+{
+    units::pages_of(h.page, h.bucket)
+}
+
+fn n_kept(map: &[u8]) -> bool
+    ensures { λ r. ⌜ r ≡ nKept (now (map .entry)) ⌝ }
+{
+    if !due(1, 0, map, 0) {
+        return false;
+    }
+    units::n_allowed(map[3] as usize)
+}
+
+fn page_kept(map: &[u8]) -> bool
+    ensures { λ r. ⌜ r ≡ pageKept (now (map .entry)) ⌝ }
+{
+    if !due(2, 0, map, 4) {
+        return false;
+    }
+    units::page_allowed(Bytes {
+        count: four_bytes(map, 7),
+    })
+}
+
+fn bucket_kept(map: &[u8]) -> bool
+    ensures { λ r. ⌜ r ≡ bucketKept (now (map .entry)) ⌝ }
+{
+    if !due(3, 0, map, 11) {
+        return false;
+    }
+    let h = header_of(map);
+    units::bucket_allowed(h.bucket, pages(h))
+}
+
+fn read_header(map: &[u8]) -> Reading
+    ensures { λ r. ⌜ r ≡ told (first (headerTests (now (map .entry)))) (headerOf (now (map .entry))) ⌝ }
+{
+    if !n_kept(map) {
+        return Reading::Breaks(0);
+    }
+    if !page_kept(map) {
+        return Reading::Breaks(4);
+    }
+    if !bucket_kept(map) {
+        return Reading::Breaks(11);
+    }
+    Reading::Holds(header_of(map))
+}
+
+// One entry a page, and nothing after the last.
+fn read_entries(h: Header, map: &[u8]) -> Reading
+    requires { ⌜ h .n ≤ 4 ⌝ }
+    ensures { λ r. ⌜ r ≡ told (first (entryTests (h .n) (now (map .entry)) (Header·pages h) 18)) h ⌝ }
+{
+    let n = h.n;
+    let size = 3 + 2 * n;
+    let mut left = pages(h);
+    let mut at: usize = 18;
+    while left > 0 {
+        if !due(4, n, map, at) {
+            return Reading::Breaks(at);
+        }
+        at += size;
+        left -= 1;
+    }
+    if at < map.len() {
+        return Reading::Breaks(at);
+    }
+    Reading::Holds(h)
+}
+
+// The whole map: the place of its first break, or what its header holds.
+pub fn read(map: &[u8]) -> Reading
+    ensures { λ r. ⌜ r ≡ reading (now (map .entry)) ⌝ }
+{
+    let start = read_header(map);
+    match start {
+        Reading::Breaks(at) => Reading::Breaks(at),
+        Reading::Holds(h) => read_entries(h, map),
+    }
+}

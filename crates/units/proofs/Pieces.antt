@@ -1,0 +1,42 @@
+-- Counting in pieces, rounded up: by a division, and what the count says of the bytes.
+-- Assumes nothing.
+use mathlib.Core.Path.{_≡_}
+use mathlib.Core.Logic.{_≢_}
+use Prim.Native.Nat.{ℕ, _+_, _-_, _*_, _/_, _%_, _≤_, _<_}
+use native.Mathlib.Nat.{mod-lt, add-mul, one-mul, div-add-mod', div-eq-of-lt-le, mul-le-mul-right, lt-div-mul-add, div-mul-le-self}
+use native.Mathlib.Omega.{arith}
+use Rattle.units.specs.Counts.{pieces}
+
+module _ (size bytes : ℕ) (some : 0 < size) where
+  next-piece : (k : ℕ) → (k + 1) * size ≡ k * size + size
+  next-piece k = omega (arith, add-mul k 1 size, one-mul size)
+
+  rest-below : bytes % size < size
+  rest-below = mod-lt bytes some
+
+  pub pieces-whole : bytes % size ≡ 0 → pieces size bytes ≡ bytes / size
+  pieces-whole none =
+      let split : bytes / size * size + bytes % size ≡ bytes = div-add-mod' bytes size in
+      let above : (bytes / size + 1) * size ≡ bytes / size * size + size = next-piece (bytes / size) in
+      div-eq-of-lt-le size (omega arith) (omega arith)
+
+  pub pieces-part : bytes % size ≢ 0 → pieces size bytes ≡ bytes / size + 1
+  pieces-part left =
+      let split : bytes / size * size + bytes % size ≡ bytes = div-add-mod' bytes size in
+      let below : bytes % size < size = rest-below in
+      let positive : 0 < bytes % size = omega arith in
+      let this : (bytes / size + 1) * size ≡ bytes / size * size + size = next-piece (bytes / size) in
+      let above : (bytes / size + 1 + 1) * size ≡ (bytes / size + 1) * size + size = next-piece (bytes / size + 1) in
+      div-eq-of-lt-le size (omega arith) (omega arith)
+
+  -- the pieces hold all bytes, and each of them holds one
+  pub pieces-hold : bytes ≤ pieces size bytes * size
+  pieces-hold = let up : bytes + (size - 1) < pieces size bytes * size + size = lt-div-mul-add some in omega arith
+
+  pub piece-holds : (k : ℕ) → k < pieces size bytes → k * size < bytes
+  piece-holds k inside =
+      let down : pieces size bytes * size ≤ bytes + (size - 1) = div-mul-le-self (bytes + (size - 1)) size in
+      let this : (k + 1) * size ≡ k * size + size = next-piece k in
+      let up : k + 1 ≤ pieces size bytes = omega arith in
+      let most : (k + 1) * size ≤ pieces size bytes * size = mul-le-mul-right size up in
+      omega arith
