@@ -3,3 +3,6 @@ pub mod Numbers
 pub mod Fields
 pub mod Entries
 pub mod Headers
+pub mod Runs
+pub mod Tagging
+pub mod Making

@@ -46,9 +46,12 @@ pub record Outcome : Type 0 where
   pub answer : Made
   pub output : List ℕ
 
+abbrev pub outcomeOf : Made → List ℕ → Outcome
+outcomeOf answer output = record { answer = answer; output = output }
+
 abbrev pub outcome : Verdict → ℕ → ℕ → List ℕ → List ℕ → Outcome
-outcome Allowed n page bucket output = record { answer = Made.Written (record { count = needed n page bucket }); output = written output 0 (made n page bucket) }
-outcome (Refused r) n page bucket output = record { answer = Made.Refused r; output = output }
+outcome Allowed n page bucket output = outcomeOf (Made.Written (record { count = needed n page bucket })) (written output 0 (made n page bucket))
+outcome (Refused r) n page bucket output = outcomeOf (Made.Refused r) output
 
 unfoldable pub making : ℕ → ℕ → List ℕ → List ℕ → Outcome
 making n page bucket output = outcome (first (makeTests n page bucket output)) n page bucket output

@@ -1,12 +1,13 @@
 -- The laws of a part written over: its length, what stands before it, in it and after it, and a part written right after a part.
 -- Assumes nothing.
-use mathlib.Core.Path.{_≡_, refl, sym, ap, _∙_, subst}
+use mathlib.Core.Path.{_≡_, refl, sym, ap, _∙_}
 use mathlib.Core.List.{List, [], _∷_, _++_, append-assoc}
-use Prim.Native.Nat.{ℕ, suc, _+_, _-_, _≤_, _<_}
+use Prim.Native.Nat.{ℕ, suc, _+_, _≤_, _<_}
 use native.Mathlib.Nat.{add-zero, add-suc, suc-add}
+use native.Mathlib.Numerals.{add-one}
 use native.Mathlib.Omega.{arith}
-use lib.ListN.{length, take, drop, set, getD, length-append, length-take, length-drop}
-use lib.Seq.{sets, sets-eq, length-sets, length-take-le, take-at, drop-at, take-take, take-append-le}
+use lib.ListN.{length, take, drop, set, length-append, length-set}
+use lib.Seq.{sets, sets-eq, length-sets, length-take-le, take-at, drop-at}
 use Rattle.units.specs.Writing.{written}
 
 -- element by element, from the first of the new part on
@@ -22,6 +23,13 @@ written-none old at fits = written-sets old at [] (omega (arith, add-zero at))
 
 pub written-one : (old : List ℕ) (at x : ℕ) → at < length old → written old at (x ∷ []) ≡ set old at x
 written-one old at x fits = written-sets old at (x ∷ []) (omega arith)
+
+-- the first element, then the others
+pub written-cons : (old : List ℕ) (at x : ℕ) (xs : List ℕ) → at + 1 + length xs ≤ length old → written (set old at x) (at + 1) xs ≡ written old at (x ∷ xs)
+written-cons old at x xs fits =
+    written-sets (set old at x) (at + 1) xs (omega (arith, length-set old at x))
+    ∙ ap (λ (k : ℕ). sets (set old at x) k xs) (add-one at)
+    ∙ sym (written-sets old at (x ∷ xs) (omega arith))
 
 sets-append : (xs ys old : List ℕ) (at : ℕ) → sets (sets old at xs) (at + length xs) ys ≡ sets old at (xs ++ ys)
 sets-append [] ys old at = ap (λ (k : ℕ). sets old k ys) (add-zero at)

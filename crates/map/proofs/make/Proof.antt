@@ -1,0 +1,151 @@
+use Rattle.map.proofs.Making.{n-most, page-some, place-most, file-written}
+use Rattle.map.specs.declared.Made.the-variants.{Written, Refused}
+use Rattle.map.specs.declared.Made.{Made}
+use Rattle.map.specs.Making.{making, outcomeOf, needed, made, madeEntry}
+use Rattle.map.specs.Files.{place, entries}
+use Rattle.units.specs.Writing.{written}
+use Rattle.units.specs.Sizes.{nAllowed, pageAllowed, bucketAllowed}
+use Rattle.units.specs.Counts.{pagesIn}
+use borrow.Author.Tests.{not-true, not-false, lt-ltb, le-ltb}
+use lib.ListN.{length}
+use native.Mathlib.Omega.{arith}
+use Prim.Native.Nat.{ℕ, _≤_, _<_}
+use mathlib.Core.List.{List}
+use mathlib.Core.Bool.{true, false}
+use mathlib.Core.Path.{_≡_, refl, sym, ap, ap₂, _∙_, subst}
+use borrow.Author.Needs.{needs}
+use Rattle.map.proofs.make.Statement.{statement}
+use Rattle.map.proofs.make.Tie as tie
+use Rattle.map.proofs.make.Reads as reads
+use Rattle.map.proofs.make.Lts as lts
+use Rattle.map.proofs.place.Reads as place-reads
+use Rattle.map.proofs.put_entries.Reads as put-entries-reads
+use Rattle.map.proofs.put_header.Reads as put-header-reads
+use Rattle.map.proofs.refused.Reads as refused-reads
+use Rattle.units.proofs.bucket_allowed.Reads as bucket-allowed-reads
+use Rattle.units.proofs.n_allowed.Reads as n-allowed-reads
+use Rattle.units.proofs.page_allowed.Reads as page-allowed-reads
+use Rattle.units.proofs.pages_of.Reads as pages-of-reads
+
+-- no size test applies
+record Sized (n page : ℕ) (bucket : List ℕ) : Type 0 where
+  size : nAllowed n ≡ true
+  paged : pageAllowed page ≡ true
+  long : bucketAllowed (length bucket) (pagesIn page (length bucket)) ≡ true
+
+abbrev start : tie.Else3 → tie.Start
+start c = c .before .before .before .before .before .before .before .before .before
+
+sized : (c : tie.Else3) → Sized (start c .args .n) (start c .args .page .count) (start c .args .bucket .now)
+sized c =
+    record {
+      size = sym (c .before .before .before .before .before .before .n-allowed .ensures) ∙ not-false _ (c .before .before .before .before .before .if1 .left);
+      paged = sym (c .before .before .before .before .page-allowed .ensures) ∙ not-false _ (c .before .before .before .if2 .left);
+      long = ap (bucketAllowed (length (start c .args .bucket .now))) (sym (c .before .before .pages-of .ensures)) ∙ sym (c .before .bucket-allowed .ensures) ∙ not-false _ (c .if3 .left);
+    }
+
+n-allowed-requires : tie.Need-n-allowed-requires
+n-allowed-requires c κs = search needs
+
+refused-requires : tie.Need-refused-requires
+refused-requires c κs = search needs
+
+returns : tie.Need-returns
+unfolding making
+returns c =
+    let size : nAllowed (c .before .before .before .before .before .args .n) ≡ false = sym (c .before .before .n-allowed .ensures) ∙ not-true _ (c .before .if1 .taken) in
+    simp size (ap (λ (a : Made). outcomeOf a (c .before .before .before .before .before .args .output .now)) (c .refused .ensures))
+
+page-allowed-requires : tie.Need-page-allowed-requires
+page-allowed-requires c κs = search needs
+
+refused-requires-2 : tie.Need-refused-requires-2
+refused-requires-2 c κs = search needs
+
+returns-2 : tie.Need-returns-2
+unfolding making
+returns-2 c =
+    let size : nAllowed (c .before .before .before .before .before .before .before .args .n) ≡ true = sym (c .before .before .before .before .n-allowed .ensures) ∙ not-false _ (c .before .before .before .if1 .left) in
+    let page : pageAllowed (c .before .before .before .before .before .before .before .args .page .count) ≡ false = sym (c .before .before .page-allowed .ensures) ∙ not-true _ (c .before .if2 .taken) in
+    simp (size, page) (ap (λ (a : Made). outcomeOf a (c .before .before .before .before .before .before .before .args .output .now)) (c .refused2 .ensures))
+
+pages-of-requires : tie.Need-pages-of-requires
+pages-of-requires c κs = search needs
+
+bucket-allowed-requires : tie.Need-bucket-allowed-requires
+bucket-allowed-requires c κs = search needs
+
+refused-requires-3 : tie.Need-refused-requires-3
+refused-requires-3 c κs = search needs
+
+returns-3 : tie.Need-returns-3
+unfolding making
+returns-3 c =
+    let args : _ = c .before .before .before .before .before .before .before .before .before .before .args in
+    let size : nAllowed (args .n) ≡ true = sym (c .before .before .before .before .before .before .before .n-allowed .ensures) ∙ not-false _ (c .before .before .before .before .before .before .if1 .left) in
+    let page : pageAllowed (args .page .count) ≡ true = sym (c .before .before .before .before .before .page-allowed .ensures) ∙ not-false _ (c .before .before .before .before .if2 .left) in
+    let long : bucketAllowed (length (args .bucket .now)) (pagesIn (args .page .count) (length (args .bucket .now))) ≡ false = ap (bucketAllowed (length (args .bucket .now))) (sym (c .before .before .before .pages-of .ensures)) ∙ sym (c .before .before .bucket-allowed .ensures) ∙ not-true _ (c .before .if3 .taken) in
+    simp (size, page, long) (ap (λ (a : Made). outcomeOf a (args .output .now)) (c .refused3 .ensures))
+
+place-requires : tie.Need-place-requires
+place-requires c κs =
+    let args : _ = c .before .before .before .before .before .before .before .before .before .args in
+    let fits : Sized (args .n) (args .page .count) (args .bucket .now) = sized c in
+    subst (λ (k : ℕ). (args .n ≤ 4) × (place (args .n) k < 18446744073709551616)) (sym (c .before .before .pages-of .ensures)) (n-most (args .n) 0 0 (fits .size), omega (arith, place-most (args .n) (args .page .count) (length (args .bucket .now)) (fits .size) (fits .long)))
+
+refused-requires-4 : tie.Need-refused-requires-4
+refused-requires-4 c κs = search needs
+
+returns-4 : tie.Need-returns-4
+unfolding making
+returns-4 c =
+    let args : _ = c .before .before .before .before .before .before .before .before .before .before .before .before .args in
+    let fits : Sized (args .n) (args .page .count) (args .bucket .now) = sized (c .before .before .before) in
+    let room : c .before .before .place .result ≡ needed (args .n) (args .page .count) (args .bucket .now) = c .before .before .place .ensures ∙ ap (place (args .n)) (c .before .before .before .before .before .pages-of .ensures) in
+    let short : length (args .output .now) < needed (args .n) (args .page .count) (args .bucket .now) = omega arith in
+    simp (fits .size, fits .paged, fits .long, lt-ltb _ _ short) (ap (λ (a : Made). outcomeOf a (args .output .now)) (c .refused4 .ensures ∙ ap (λ (k : ℕ). Refused (record { number = 7; value = k })) room))
+
+put-header-requires : tie.Need-put-header-requires
+put-header-requires c κs = search needs
+
+put-entries-requires : tie.Need-put-entries-requires
+put-entries-requires c κs =
+    let args : _ = c .before .before .before .before .before .before .before .before .before .before .before .before .before .before .before .before .args in
+    let fits : Sized (args .n) (args .page .count) (args .bucket .now) = sized (c .before .before .before .before .before .before .before) in
+    let room : c .before .before .before .before .before .before .place .result ≡ needed (args .n) (args .page .count) (args .bucket .now) = c .before .before .before .before .before .before .place .ensures ∙ ap (place (args .n)) (c .before .before .before .before .before .before .before .before .before .pages-of .ensures) in
+    (n-most (args .n) 0 0 (fits .size), page-some 0 (args .page .count) 0 (fits .paged), refl, omega (arith, c .before .before .before .put-header .kept .1 .0, c .before .before .before .before .before .if4 .left))
+
+same-length : tie.Need-same-length
+same-length c = search needs
+
+returns-5 : tie.Need-returns-5
+unfolding making
+returns-5 c =
+    let args : _ = c .before .before .before .before .before .before .before .before .before .before .before .before .before .before .before .before .before .before .before .args in
+    let fits : Sized (args .n) (args .page .count) (args .bucket .now) = sized (c .before .before .before .before .before .before .before .before .before .before) in
+    let room : c .before .before .before .before .before .before .before .before .before .place .result ≡ needed (args .n) (args .page .count) (args .bucket .now) = c .before .before .before .before .before .before .before .before .before .place .ensures ∙ ap (place (args .n)) (c .before .before .before .before .before .before .before .before .before .before .before .before .pages-of .ensures) in
+    let enough : needed (args .n) (args .page .count) (args .bucket .now) ≤ length (args .output .now) = omega (arith, c .before .before .before .before .before .before .before .before .if4 .left) in
+    let entries-put : c .before .before .put-entries .last .1 .1 .0 ≡ written (args .output .now) 0 (made (args .n) (args .page .count) (args .bucket .now)) = c .before .before .put-entries .ensures ∙ ap (λ (l : List ℕ). written l 18 (entries (madeEntry (args .n) (args .page .count) (args .bucket .now)) 0 (pagesIn (args .page .count) (length (args .bucket .now))))) (c .before .before .before .before .before .before .put-header .ensures) ∙ file-written (args .n) (args .page .count) (args .bucket .now) (args .output .now) enough in
+    simp (fits .size, fits .paged, fits .long, le-ltb _ _ enough) (ap₂ (λ (k : ℕ) (l : List ℕ). outcomeOf (Written (record { count = k })) l) room entries-put)
+
+pub make-spec : {M : Type 1} → statement M
+make-spec =
+    tie.close
+    (tie.spec
+    n-allowed-requires
+    refused-requires
+    returns
+    page-allowed-requires
+    refused-requires-2
+    returns-2
+    pages-of-requires
+    bucket-allowed-requires
+    refused-requires-3
+    returns-3
+    place-requires
+    refused-requires-4
+    returns-4
+    put-header-requires
+    put-entries-requires
+    same-length
+    returns-5)

@@ -1,0 +1,56 @@
+use Rattle.map.proofs.Tagging.{tagged-written, components-length}
+use Rattle.map.specs.Files.{components, entry, tagged, place}
+use Rattle.map.specs.Numbers.{lowBytes}
+use Rattle.signature.specs.Signatures.{handed}
+use Rattle.units.specs.Writing.{written}
+use native.Mathlib.Omega.{arith}
+use Prim.Native.Nat.{ℕ, _+_, _*_}
+use mathlib.Core.List.{List, _∷_}
+use mathlib.Core.Path.{_≡_, sym, ap, ap₂, _∙_}
+use borrow.Author.Needs.{needs}
+use Rattle.map.proofs.put_entry.Statement.{statement}
+use Rattle.map.proofs.put_entry.Tie as tie
+use Rattle.map.proofs.put_entry.Reads as reads
+use Rattle.map.proofs.put_entry.Lts as lts
+use Rattle.map.proofs.place.Reads as place-reads
+use Rattle.map.proofs.put_components.Reads as put-components-reads
+use Rattle.map.proofs.put_tag.Reads as put-tag-reads
+
+place-requires : tie.Need-place-requires
+place-requires c κs = search needs
+
+mul-put-tag : tie.Need-mul-put-tag
+mul-put-tag c = search needs
+
+put-tag-requires : tie.Need-put-tag-requires
+put-tag-requires c κs = search needs
+
+add-put-components : tie.Need-add-put-components
+add-put-components c = search needs
+
+put-components-requires : tie.Need-put-components-requires
+put-components-requires c κs = search needs
+
+same-length : tie.Need-same-length
+same-length c = search needs
+
+returns : tie.Need-returns
+unfolding entry
+returns c =
+    let args : _ = c .before .before .before .before .before .before .before .before .before .before .before .before .args in
+    let n : ℕ = args .e .signature .n in
+    let value : List ℕ = components n (handed (args .e .signature)) in
+    let tag : c .before .before .before .before .before .before .put-tag .last .1 .1 .0 ≡ written (args .map .now) (place n (args .k)) (args .e .tag ∷ lowBytes 2 (2 * n)) = c .before .before .before .before .before .before .put-tag .ensures ∙ ap (λ (at : ℕ). written (args .map .now) at (args .e .tag ∷ lowBytes 2 (2 * n))) (c .before .before .before .before .before .before .before .before .before .place .ensures) in
+    c .before .before .put-components .ensures ∙ ap₂ (λ (l : List ℕ) (at : ℕ). written l (at + 3) value) tag (c .before .before .before .before .before .before .before .before .before .place .ensures) ∙ tagged-written (args .map .now) (place n (args .k)) (args .e .tag) (2 * n) value (components-length n _) (omega (arith, c .before .before .before .before .before .before .before .before .before .before .before .before .pre .1))
+
+pub put-entry-spec : {M : Type 1} → statement M
+put-entry-spec =
+    tie.close
+    (tie.spec
+    place-requires
+    mul-put-tag
+    put-tag-requires
+    add-put-components
+    put-components-requires
+    same-length
+    returns)
