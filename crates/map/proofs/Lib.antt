@@ -6,3 +6,7 @@ pub mod Headers
 pub mod Runs
 pub mod Tagging
 pub mod Making
+pub mod Placed
+pub mod Back
+pub mod Contents
+pub mod Readback

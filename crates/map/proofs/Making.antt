@@ -40,19 +40,28 @@ entry-inside n k pages below =
     omega (arith, suc-mul k (entryBytes n))
 
 -- what the size tests say
-module _ (n page bucket : ℕ) where
-  pub n-most : nAllowed n ≡ true → n ≤ 4
-  n-most e = leb-true _ _ (halves (leb 1 n) _ e .1)
 
-  pub page-some : pageAllowed page ≡ true → 1 ≤ page
-  page-some e = omega (arith, leb-true 2 page (halves (eqb (page % 2) 0) _ (halves (eqb (page % 2) 0 && leb 2 page) _ e .0) .1))
+pub n-most : (n : ℕ) → nAllowed n ≡ true → n ≤ 4
+n-most n e = leb-true _ _ (halves (leb 1 n) _ e .1)
 
-  pub place-most : nAllowed n ≡ true → bucketAllowed bucket (pagesIn page bucket) ≡ true → place n (pagesIn page bucket) ≤ 45074
-  place-most size long =
-      let small : entryBytes n ≤ 11 = omega (arith, n-most size) in
-      let few : pagesIn page bucket ≤ 4096 = leb-true _ _ (halves (leb bucket 16777216) _ long .1) in
-      let product : pagesIn page bucket * entryBytes n ≤ 4096 * 11 = mul-le-mul few small in
-      omega arith
+pub page-some : (page : ℕ) → pageAllowed page ≡ true → 1 ≤ page
+page-some page e = omega (arith, leb-true 2 page (halves (eqb (page % 2) 0) _ (halves (eqb (page % 2) 0 && leb 2 page) _ e .0) .1))
+
+pub page-most : (page : ℕ) → pageAllowed page ≡ true → page ≤ 65536
+page-most page e = leb-true _ _ (halves (eqb (page % 2) 0 && leb 2 page) _ e .1)
+
+pub bucket-most : (bucket pages : ℕ) → bucketAllowed bucket pages ≡ true → bucket ≤ 16777216
+bucket-most bucket pages e = leb-true _ _ (halves (leb bucket 16777216) _ e .0)
+
+pub pages-most : (bucket pages : ℕ) → bucketAllowed bucket pages ≡ true → pages ≤ 4096
+pages-most bucket pages e = leb-true _ _ (halves (leb bucket 16777216) _ e .1)
+
+-- the longest file
+pub place-most : (n bucket pages : ℕ) → nAllowed n ≡ true → bucketAllowed bucket pages ≡ true → place n pages ≤ 45074
+place-most n bucket pages size long =
+    let small : entryBytes n ≤ 11 = omega (arith, n-most n size) in
+    let product : pages * entryBytes n ≤ 4096 * 11 = mul-le-mul (pages-most bucket pages long) small in
+    omega arith
 
 -- the header, and then the entries, are the file
 pub file-written : (n page : ℕ) (bucket old : List ℕ) → needed n page bucket ≤ length old

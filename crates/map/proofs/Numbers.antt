@@ -38,13 +38,6 @@ pub low-first-after : (size : ℕ) (front rest : List ℕ) (i : ℕ) → lowFirs
 low-first-after size front rest i =
     low-first-drop size (front ++ rest) (length front) i ∙ ap (λ (l : List ℕ). lowFirst size l i) (drop-append-seam front rest)
 
-pub low-first-below : (size : ℕ) (bytes : List ℕ) (at : ℕ) → Octets bytes → lowFirst size bytes at < 256 ^ size
-unfolding lowFirst
-low-first-below zero bytes at octets = omega arith
-low-first-below (suc size) bytes at octets =
-    let rest : lowFirst size bytes (suc at) < 256 ^ size = low-first-below size bytes (suc at) octets in
-    omega (arith, octets at, pow-suc 256 size)
-
 -- ---- writing
 
 pub low-bytes-length : (size x : ℕ) → length (lowBytes size x) ≡ size

@@ -1,11 +1,12 @@
--- Lists of one length end to end: how long they are together, and that writing them one after the other writes them all.
+-- Lists end to end: how long they are together, that writing them one after the other writes them all, and where each of them stands.
 -- Assumes nothing.
-use mathlib.Core.Path.{_≡_, refl, sym, ap, _∙_}
-use mathlib.Core.List.{List, [], _++_}
-use Prim.Native.Nat.{ℕ, zero, suc, _+_, _*_, _≤_}
-use native.Mathlib.Nat.{suc-mul}
+use mathlib.Core.Path.{_≡_, refl, sym, ap, ap₂, _∙_}
+use mathlib.Core.List.{List, [], _++_, append-assoc}
+use Prim.Native.Nat.{ℕ, zero, suc, _+_, _-_, _*_, _≤_, _<_}
+use native.Mathlib.Nat.{add-zero, zero-add, add-suc, suc-add, zero-mul, suc-mul, le-refl}
 use native.Mathlib.Omega.{arith}
-use lib.ListN.{length, length-append}
+use lib.ListN.{length, take, drop, length-append}
+use lib.Seq.{take-add, drop-drop}
 use Rattle.units.specs.Writing.{written}
 use Rattle.units.proofs.Writing.{written-append}
 use Rattle.map.specs.Numbers.{endToEnd}
@@ -26,3 +27,44 @@ module _ (f : ℕ → List ℕ) (size : ℕ) (sized : (k : ℕ) → length (f k)
 pub run-none : (f : ℕ → List ℕ) (k : ℕ) → endToEnd f k 0 ≡ []
 unfolding endToEnd
 run-none f k = refl
+
+-- the first m lists, and then the others
+pub run-split : (f : ℕ → List ℕ) (m rest k : ℕ) → endToEnd f k (m + rest) ≡ endToEnd f k m ++ endToEnd f (k + m) rest
+unfolding endToEnd
+run-split f zero rest k = ap₂ (endToEnd f) (sym (add-zero k)) (zero-add rest)
+run-split f (suc m) rest k =
+    ap (endToEnd f k) (suc-add m rest)
+    ∙ ap (λ (l : List ℕ). f k ++ l) (run-split f m rest (suc k) ∙ ap (λ (i : ℕ). endToEnd f (suc k) m ++ endToEnd f i rest) (suc-add k m ∙ sym (add-suc k m)))
+    ∙ sym (append-assoc (f k) (endToEnd f (suc k) m) (endToEnd f (k + suc m) rest))
+
+-- list i of m, with what stands before it and after it
+pub run-at : (f : ℕ → List ℕ) (k i m : ℕ) → i < m → endToEnd f k m ≡ endToEnd f k i ++ (f (k + i) ++ endToEnd f (suc (k + i)) (m - suc i))
+unfolding endToEnd
+run-at f k i m inside =
+    let split : m ≡ i + suc (m - suc i) = omega arith in
+    ap (endToEnd f k) split ∙ run-split f i (suc (m - suc i)) k
+
+pub run-same : (f g : ℕ → List ℕ) (m k : ℕ) → ((i : ℕ) → k ≤ i → i < k + m → f i ≡ g i) → endToEnd f k m ≡ endToEnd g k m
+unfolding endToEnd
+run-same f g zero k e = refl
+run-same f g (suc m) k e =
+    ap₂ _++_ (e k (le-refl k) (omega arith)) (run-same f g m (suc k) (λ i low high. e i (omega arith) (omega arith)))
+
+-- lists that stand one after the other in the bytes are the part that they take up
+pub run-back : (f : ℕ → List ℕ) (size : ℕ) (bytes : List ℕ) (m k at : ℕ)
+    → ((i : ℕ) → i < m → f (k + i) ≡ take size (drop (at + i * size) bytes)) → endToEnd f k m ≡ take (m * size) (drop at bytes)
+unfolding endToEnd
+run-back f size bytes zero k at e = sym (ap (λ (n : ℕ). take n (drop at bytes)) (zero-mul size))
+run-back f size bytes (suc m) k at e =
+    let here : f k ≡ take size (drop at bytes) =
+    ap f (sym (add-zero k)) ∙ e 0 (omega arith) ∙ ap (λ (n : ℕ). take size (drop n bytes)) (ap (λ (n : ℕ). at + n) (zero-mul size) ∙ add-zero at) in
+    let later : endToEnd f (suc k) m ≡ take (m * size) (drop (at + size) bytes) =
+    run-back f size bytes m (suc k) (at + size)
+    (λ i inside.
+    let up : suc i < suc m = omega arith in
+    let place : at + suc i * size ≡ at + size + i * size = omega (arith, suc-mul i size) in
+    ap f (suc-add k i ∙ sym (add-suc k i)) ∙ e (suc i) up ∙ ap (λ (n : ℕ). take size (drop n bytes)) place) in
+    let whole : suc m * size ≡ size + m * size = omega (arith, suc-mul m size) in
+    ap₂ _++_ here (later ∙ ap (take (m * size)) (sym (drop-drop size at bytes)))
+    ∙ sym (take-add size (m * size) (drop at bytes))
+    ∙ ap (λ (n : ℕ). take n (drop at bytes)) (sym whole)

@@ -1,4 +1,4 @@
--- A component of two parts end to end. Horner's rule is the case in which the first part is one symbol.
+-- A component is an element, and that of two parts end to end is made of theirs. Horner's rule is the case in which the first part is one symbol.
 -- Assumes nothing.
 use mathlib.Core.Path.{_≡_, sym, ap, ap₂, _∙_}
 use Prim.Native.Nat.{ℕ, suc, _+_, _-_, _*_, _<_}
@@ -7,10 +7,10 @@ use native.Mathlib.Omega.{arith}
 use Rattle.field.specs.Field.{Field, Element, _⊕_, product, power, α}
 use Rattle.field.proofs.Sums.{zero-sum}
 use Rattle.field.proofs.Reducing.{sum-product, zero-product}
-use Rattle.field.proofs.Products.{Formed, product-assoc, product-one}
+use Rattle.field.proofs.Products.{Formed, product-element, product-assoc, product-one}
 use Rattle.field.proofs.Powers.{α-element, α-power, power-zero, power-add}
 use Rattle.signature.specs.Signatures.{total, component, joined}
-use Rattle.signature.proofs.Totals.{total-same, total-sum, total-parts, total-image, total-nothing}
+use Rattle.signature.proofs.Totals.{total-same, total-sum, total-parts, total-image, total-nothing, total-below}
 
 module _ (F : Field) where
   -- every symbol is an element
@@ -24,6 +24,10 @@ module _ (F : Field) where
       ∙ ap (λ (e : ℕ). product F (p 0) (power F α e)) (zero-mul j)
       ∙ ap (product F (p 0)) (power-zero F formed α)
       ∙ product-one F formed h
+
+  pub component-element : Formed F → (m : ℕ) (p : ℕ → ℕ) (j : ℕ) → Elements p → Element F (component F m p j)
+  unfolding component
+  component-element formed m p j h = total-below (F .width) m _ (λ i. product-element F formed (power F α (i * j)) (h i))
 
   -- equal symbols, equally weighed
   weighed : {x y : ℕ} (w : ℕ) → x ≡ y → product F x w ≡ product F y w

@@ -21,14 +21,16 @@ use Rattle.units.proofs.Refusing.{Lowest, ascending, lowest-given}
 use Rattle.field.specs.Field.{_⊕_, product, power, α, order}
 use Rattle.field.proofs.Tests.{Passes, formed}
 use Rattle.field.proofs.Instances.{GF16-passes}
-use Rattle.signature.specs.Objects.{Octets, symbols}
+use Rattle.signature.specs.Objects.{Octets, symbol, symbols}
 use Rattle.signature.specs.Signatures.{signature, joined, edited, handed, answered}
 use Rattle.signature.specs.Kinds.{Kind, wide}
 use Rattle.signature.specs.Operations.{told, unless, decided, own, signTests, signing, joinTests, joining, editTests, editing}
 use Rattle.signature.specs.Differences.{differing}
 use Rattle.signature.specs.Edits.{Edited}
 use Rattle.signature.specs.declared.Signature.{Signature}
-use Rattle.signature.proofs.Handing.{answered-same, answered-handed, answered-tells}
+use Rattle.signature.proofs.Handing.{answered-same, answered-handed, answered-tells, answered-below}
+use Rattle.signature.proofs.Octets.{symbol-element}
+use Rattle.signature.proofs.Components.{component-element}
 use Rattle.signature.proofs.Parts.{whole-length, symbols-parts}
 use Rattle.signature.proofs.Joining.{join-law}
 use Rattle.signature.proofs.Editing.{edit-law}
@@ -149,6 +151,13 @@ module _ (K : Kind) where
             (λ j.
             sym (edit-law (K .field) (formed (K .field) (sound .passes)) (K .size) (sound .some) (sound .fits) page after r old new (symbols (K .size) old) e old-whole
             (equal ∙ old-whole) page-octets after-octets j))
+
+    -- ---- every component of an object's own signature is an element
+
+    pub own-below : (n : ℕ) (object : List ℕ) → Octets object → (j : ℕ) → handed (own K n object) j < 2 ^ K .field .width
+    own-below n object octets =
+        answered-below (K .field .width) n (signature (K .field) (K .size) object)
+        (λ j. component-element (K .field) (formed (K .field) (sound .passes)) _ (symbol (K .size) object) j (symbol-element (K .field) (K .size) (sound .fits) object octets))
 
     -- ---- sure detection
 

@@ -10,7 +10,7 @@ use Rattle.field.specs.Field.{Field, Element, _⊕_, GF16}
 use Rattle.field.proofs.Sums.{sum-self, sum-lt}
 use Rattle.signature.specs.Objects.{Octets, lowFirst, symbol}
 
-low-first-lt : (size : ℕ) (bytes : List ℕ) (at : ℕ) → Octets bytes → lowFirst size bytes at < 256 ^ size
+pub low-first-lt : (size : ℕ) (bytes : List ℕ) (at : ℕ) → Octets bytes → lowFirst size bytes at < 256 ^ size
 unfolding lowFirst
 low-first-lt zero bytes at octets = zero-lt-suc 0
 low-first-lt (suc size) bytes at octets =

@@ -1,10 +1,11 @@
--- Sums over positions: equal terms, sums of sums, sums in two parts, and what an additive map does to them.
+-- Sums over positions: equal terms, sums of sums, sums in two parts, what an additive map does to them, and their size.
 -- Assumes nothing.
 use mathlib.Core.Path.{_≡_, refl, sym, ap, ap₂, _∙_}
-use Prim.Native.Nat.{ℕ, zero, suc, _+_, _<_}
+use Prim.Native.Nat.{ℕ, zero, suc, _+_, _^_, _<_}
 use native.Mathlib.Nat.{add-zero, add-suc, le-step, lt-suc-self}
+use lib.Pow.{pow-pos}
 use Rattle.field.specs.Field.{_⊕_}
-use Rattle.field.proofs.Sums.{zero-sum, sum-zero, sum-assoc, sum-cross}
+use Rattle.field.proofs.Sums.{sum-lt, zero-sum, sum-zero, sum-assoc, sum-cross}
 use Rattle.field.proofs.Additive.{Additive, at-zero}
 use Rattle.signature.specs.Signatures.{total}
 
@@ -35,3 +36,8 @@ pub total-nothing : (m : ℕ) (f : ℕ → ℕ) → ((i : ℕ) → i < m → f i
 unfolding total
 total-nothing zero f e = refl
 total-nothing (suc m) f e = ap₂ _⊕_ (total-nothing m f (λ i h. e i (le-step h))) (e m (lt-suc-self m)) ∙ zero-sum 0
+
+pub total-below : (w m : ℕ) (f : ℕ → ℕ) → ((i : ℕ) → f i < 2 ^ w) → total m f < 2 ^ w
+unfolding total
+total-below w zero f e = pow-pos w
+total-below w (suc m) f e = sum-lt w (total-below w m f e) (e m)

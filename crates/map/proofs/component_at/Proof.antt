@@ -1,6 +1,6 @@
-use Rattle.map.proofs.Numbers.{low-first-below}
 use borrow.Author.Tests.{lt-leb, le-leb}
 use Rattle.signature.specs.Objects.{lowFirst}
+use Rattle.signature.proofs.Octets.{low-first-lt}
 use mathlib.Core.Path.{_≡_, sym, ap, _∙_}
 use native.Mathlib.Omega.{arith}
 use Prim.Native.Nat.{_<_, _+_, _*_}
@@ -25,7 +25,7 @@ two-bytes-requires c κs = search needs
 
 cast-result : tie.Need-cast-result
 cast-result c =
-    let small : lowFirst 2 (c .before .before .before .args .map .now) (c .before .before .before .args .at + 1 + 2 * c .before .before .before .args .j) < 65536 = low-first-below 2 _ _ (λ k. c .before .before .shared-slice-known .given k .fits) in
+    let small : lowFirst 2 (c .before .before .before .args .map .now) (c .before .before .before .args .at + 1 + 2 * c .before .before .before .args .j) < 65536 = low-first-lt 2 _ _ (λ k. c .before .before .shared-slice-known .given k .fits) in
     omega (arith, c .two-bytes .ensures)
 
 returns : tie.Need-returns

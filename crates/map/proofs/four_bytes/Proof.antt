@@ -1,5 +1,6 @@
-use Rattle.map.proofs.Numbers.{four-bytes, low-first-below}
+use Rattle.map.proofs.Numbers.{four-bytes}
 use Rattle.signature.specs.Objects.{lowFirst}
+use Rattle.signature.proofs.Octets.{low-first-lt}
 use Prim.Native.Nat.{ℕ, _+_, _*_, _<_}
 use mathlib.Core.Path.{_≡_, sym, ap₂, _∙_}
 use Rattle.map.proofs.Numbers.{four-bytes}
@@ -24,13 +25,13 @@ two-bytes-requires-2 c κs = search needs
 
 mul-result : tie.Need-mul-result
 mul-result c =
-    let small : lowFirst 2 (c .before .before .before .args .map .now) (c .before .before .before .args .at + 2) < 65536 = low-first-below 2 _ _ (λ k. c .before .before .shared-slice-known .given k .fits) in
+    let small : lowFirst 2 (c .before .before .before .args .map .now) (c .before .before .before .args .at + 2) < 65536 = low-first-lt 2 _ _ (λ k. c .before .before .shared-slice-known .given k .fits) in
     omega (arith, c .two-bytes2 .ensures)
 
 add-result : tie.Need-add-result
 add-result c =
-    let small : lowFirst 2 (c .before .before .before .args .map .now) (c .before .before .before .args .at + 2) < 65536 = low-first-below 2 _ _ (λ k. c .before .before .shared-slice-known .given k .fits) in
-    let low : lowFirst 2 (c .before .before .before .args .map .now) (c .before .before .before .args .at) < 65536 = low-first-below 2 _ _ (λ k. c .before .before .shared-slice-known .given k .fits) in
+    let small : lowFirst 2 (c .before .before .before .args .map .now) (c .before .before .before .args .at + 2) < 65536 = low-first-lt 2 _ _ (λ k. c .before .before .shared-slice-known .given k .fits) in
+    let low : lowFirst 2 (c .before .before .before .args .map .now) (c .before .before .before .args .at) < 65536 = low-first-lt 2 _ _ (λ k. c .before .before .shared-slice-known .given k .fits) in
     omega (arith, c .before .two-bytes .ensures, c .two-bytes2 .ensures)
 
 returns : tie.Need-returns

@@ -91,7 +91,7 @@ place-requires : tie.Need-place-requires
 place-requires c κs =
     let args : _ = c .before .before .before .before .before .before .before .before .before .args in
     let fits : Sized (args .n) (args .page .count) (args .bucket .now) = sized c in
-    subst (λ (k : ℕ). (args .n ≤ 4) × (place (args .n) k < 18446744073709551616)) (sym (c .before .before .pages-of .ensures)) (n-most (args .n) 0 0 (fits .size), omega (arith, place-most (args .n) (args .page .count) (length (args .bucket .now)) (fits .size) (fits .long)))
+    subst (λ (k : ℕ). (args .n ≤ 4) × (place (args .n) k < 18446744073709551616)) (sym (c .before .before .pages-of .ensures)) (n-most (args .n) (fits .size), omega (arith, place-most (args .n) (length (args .bucket .now)) (pagesIn (args .page .count) (length (args .bucket .now))) (fits .size) (fits .long)))
 
 refused-requires-4 : tie.Need-refused-requires-4
 refused-requires-4 c κs = search needs
@@ -113,7 +113,7 @@ put-entries-requires c κs =
     let args : _ = c .before .before .before .before .before .before .before .before .before .before .before .before .before .before .before .before .args in
     let fits : Sized (args .n) (args .page .count) (args .bucket .now) = sized (c .before .before .before .before .before .before .before) in
     let room : c .before .before .before .before .before .before .place .result ≡ needed (args .n) (args .page .count) (args .bucket .now) = c .before .before .before .before .before .before .place .ensures ∙ ap (place (args .n)) (c .before .before .before .before .before .before .before .before .before .pages-of .ensures) in
-    (n-most (args .n) 0 0 (fits .size), page-some 0 (args .page .count) 0 (fits .paged), refl, omega (arith, c .before .before .before .put-header .kept .1 .0, c .before .before .before .before .before .if4 .left))
+    (n-most (args .n) (fits .size), page-some (args .page .count) (fits .paged), refl, omega (arith, c .before .before .before .put-header .kept .1 .0, c .before .before .before .before .before .if4 .left))
 
 same-length : tie.Need-same-length
 same-length c = search needs
