@@ -1,19 +1,19 @@
 -- The header's part in reading a map: where it breaks the map breaks there, and where it is kept the entries decide.
 -- Assumes nothing.
 use mathlib.Core.Path.{_≡_, refl, sym, ap, _∙_}
-use mathlib.Core.Bool.{true}
-use mathlib.Core.List.{List}
-use Prim.Native.Nat.{ℕ, _≤_}
+use mathlib.Core.Bool.{Bool, true, false}
+use mathlib.Core.List.{List, [], _∷_}
+use Prim.Native.Nat.{ℕ, zero, suc, _+_, _≤_}
 use native.Mathlib.Omega.{arith}
 use lib.Dec.{leb}
 use borrow.Author.Tests.{leb-true, not-false}
-use Rattle.units.specs.Refusals.{first}
+use Rattle.units.specs.Refusals.{Test, first, MAP}
 use Rattle.units.specs.declared.Refusal.{Refusal}
 use Rattle.units.specs.declared.Verdict.{Verdict}
 use Rattle.units.specs.declared.Verdict.the-variants.{Allowed, Refused}
-use Rattle.units.proofs.Refusing.{Quiet, allowed-when, first-after, first-before}
-use Rattle.map.specs.Files.{pages}
-use Rattle.map.specs.Reading.{fieldAt, isDue, headerOf, headerTests, entryTests, told, reading, nKept, pageKept, bucketKept}
+use Rattle.units.proofs.Refusing.{Quiet, allowed-not-refused, allowed-when, first-after, first-before}
+use Rattle.map.specs.Files.{pages, entryBytes}
+use Rattle.map.specs.Reading.{fieldAt, isDue, headerOf, headerTests, entryTests, mapTests, told, reading, nKept, pageKept, bucketKept}
 use Rattle.map.specs.declared.Header.{Header}
 use Rattle.map.specs.declared.Reading.{Reading}
 use Rattle.map.specs.declared.Reading.the-variants.{Holds, Breaks}
@@ -35,6 +35,27 @@ told-breaks (Refused r) h p e = (r, (refl, place (r .value) p e))
 pub told-holds : (v : Verdict) (g h : Header) → told v g ≡ Holds h → (v ≡ Allowed) × (g ≡ h)
 told-holds Allowed g h e = (refl, same-header g h e)
 told-holds (Refused r) g h e = never h (r .value) (sym e)
+
+-- every test of the list gives MAP
+abbrev AllMap : List Test → Type 0
+AllMap [] = Unit {0}
+AllMap (t ∷ ts) = (t .refusal .number ≡ MAP) × AllMap ts
+
+all-map : (ts : List Test) → AllMap ts → (r : Refusal) → first ts ≡ Refused r → r .number ≡ MAP
+all-map [] a r e = absurd (allowed-not-refused r e)
+all-map (t ∷ ts) a r e = at (t .applies) refl (all-map ts (a .1) r)
+  where
+    number : (s : Refusal) → Refused s ≡ Refused r → s .number ≡ r .number
+    number s p = cc
+
+    at : (b : Bool) → t .applies ≡ b → (first ts ≡ Refused r → r .number ≡ MAP) → r .number ≡ MAP
+    at true p rest = sym (number (t .refusal) (simp p at e)) ∙ a .0
+    at false p rest = rest (simp p at e)
+
+entries-map : (n : ℕ) (bytes : List ℕ) (m at : ℕ) → AllMap (entryTests n bytes m at)
+unfolding entryTests
+entries-map n bytes zero at = (refl, tt)
+entries-map n bytes (suc m) at = (refl, entries-map n bytes m (at + entryBytes n))
 
 module _ (bytes : List ℕ) where
   -- what an allowed header says
@@ -68,3 +89,8 @@ module _ (bytes : List ℕ) where
 
   pub n-small : Kept → headerOf bytes .n ≤ 4
   n-small k = leb-true _ _ (halves (leb 1 (headerOf bytes .n)) _ (halves (isDue 1 (fieldAt 0 bytes 0)) _ (k .n) .1) .1)
+
+  -- whatever a map breaks, the number is MAP
+  pub map-number : (r : Refusal) → first (mapTests bytes) ≡ Refused r → r .number ≡ MAP
+  map-number r e =
+      all-map (mapTests bytes) (refl, (refl, (refl, entries-map (headerOf bytes .n) bytes (pages (headerOf bytes)) 18))) r e

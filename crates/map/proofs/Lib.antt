@@ -10,3 +10,5 @@ pub mod Placed
 pub mod Back
 pub mod Contents
 pub mod Readback
+pub mod Octets
+pub mod Maps

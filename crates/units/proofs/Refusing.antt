@@ -27,7 +27,7 @@ pub record Given (ts : List Test) (r : Refusal) : Type 0 where
   pub applies : here .applies ≡ true
   pub gives : here .refusal ≡ r
 
-allowed-not-refused : (r : Refusal) → Allowed ≡ Refused r → ⊥
+pub allowed-not-refused : (r : Refusal) → Allowed ≡ Refused r → ⊥
 allowed-not-refused r p = let z : _≡_ {A = ℕ} 0 1 = cc in omega arith
 
 same-refusal : (r s : Refusal) → Refused r ≡ Refused s → r ≡ s
