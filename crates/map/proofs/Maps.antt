@@ -13,12 +13,15 @@ use borrow.Author.Tests.{le-ltb}
 use Rattle.units.specs.Counts.{pagesIn}
 use Rattle.units.specs.Sizes.{nAllowed, pageAllowed, bucketAllowed}
 use Rattle.units.specs.Refusals.{Test, first}
-use Rattle.units.specs.Writing.{written}
+use Rattle.units.specs.Filling.{outcome}
+use Rattle.units.specs.Filling.{told as Filling·told}
+use Rattle.units.specs.declared.Filled.{Filled}
+use Rattle.units.specs.declared.Filled.the-variants.{Written}
 use Rattle.units.specs.declared.Refusal.{Refusal}
 use Rattle.units.specs.declared.Verdict.{Verdict}
 use Rattle.units.specs.declared.Verdict.the-variants as Verdict
-use Rattle.units.proofs.Refusing.{Given, Lowest, Quiet, exactly-when, allowed-when, lowest-given, allowed-not-refused}
-use Rattle.units.proofs.Writing.{written-length, written-inside, written-after}
+use Rattle.units.proofs.Refusing.{Given, Lowest, Quiet, exactly-when, allowed-when}
+use Rattle.units.proofs.Filling.{filling-refused, filling-refused-keeps, filling-puts, filling-keeps-after}
 use Rattle.signature.specs.Objects.{Octets}
 use Rattle.signature.specs.Signatures.{signature}
 use Rattle.signature.specs.Kinds.{wide}
@@ -28,14 +31,12 @@ use Rattle.signature.proofs.EveryKind.{wide-sound, own-below}
 use Rattle.map.specs.Buckets.{pageAt}
 use Rattle.map.specs.Files.{pages, place, entryBytes}
 use Rattle.map.specs.Reading.{fieldAt, isDue, headerOf, mapTests, entryTests, told, reading, entryAt}
-use Rattle.map.specs.Making.{madeEntry, madeHeader, made, needed, makeTests, making, Outcome, outcome, outcomeOf}
+use Rattle.map.specs.Making.{madeEntry, madeHeader, made, needed, makeTests, making}
 use Rattle.map.specs.declared.Header.{Header}
 use Rattle.map.specs.declared.Entry.{Entry}
 use Rattle.map.specs.declared.Field.{Field}
 use Rattle.map.specs.declared.Reading.{Reading}
 use Rattle.map.specs.declared.Reading.the-variants.{Holds, Breaks}
-use Rattle.map.specs.declared.Made.{Made}
-use Rattle.map.specs.declared.Made.the-variants as Made
 use Rattle.map.proofs.Entries.{entry-kept, entry-broken, end-broken}
 use Rattle.map.proofs.Headers.{Kept, kept-header, entries-decide, told-breaks, told-holds, map-number}
 use Rattle.map.proofs.Making.{next-place}
@@ -56,7 +57,7 @@ field-at-one-answer κs a r s x y p q = p ∙ sym q
 pub read-one-answer : (κs : _) (a : _) (r s : Reading) (x y : _) → read.Post κs a r x → read.Post κs a s y → r ≡ s
 read-one-answer κs a r s x y p q = p ∙ sym q
 
-pub make-one-answer : (κs : _) (a : _) (r s : Made) (x y : _) → make.Post κs a r x → make.Post κs a s y
+pub make-one-answer : (κs : _) (a : _) (r s : Filled) (x y : _) → make.Post κs a r x → make.Post κs a s y
     → (r ≡ s) × (now (x .1 .1 .1 .0) ≡ now (y .1 .1 .1 .0))
 make-one-answer κs a r s x y p q = let same : _ = p ∙ sym q in (ap (λ o. o .answer) same, ap (λ o. o .output) same)
 
@@ -125,31 +126,14 @@ module _ (bytes : List ℕ) (kept : Kept bytes) where
 
 -- ---- make map
 
--- what the table says of an answer
-abbrev pub made-told : Made → Verdict
-made-told (Made.Written b) = Verdict.Allowed
-made-told (Made.Refused r) = Verdict.Refused r
-
-told-outcome : (v : Verdict) (n page : ℕ) (bucket output : List ℕ) → made-told (outcome v n page bucket output .answer) ≡ v
-told-outcome Verdict.Allowed n page bucket output = refl
-told-outcome (Verdict.Refused r) n page bucket output = refl
-
 module _ (n page : ℕ) (bucket output : List ℕ) where
-  pub make-refused : (r : Refusal) → (made-told (making n page bucket output .answer) ≡ Verdict.Refused r) ↔ Lowest (makeTests n page bucket output) r
+  pub make-refused : (r : Refusal) → (Filling·told (making n page bucket output .answer) ≡ Verdict.Refused r) ↔ Lowest (makeTests n page bucket output) r
   unfolding making
-  make-refused r =
-      let tests : List Test = makeTests n page bucket output in
-      let is : made-told (making n page bucket output .answer) ≡ first tests = told-outcome (first tests) n page bucket output in
-      (λ p. lowest-given tests tt r .0 (sym is ∙ p), λ g. is ∙ lowest-given tests tt r .1 g)
+  make-refused = filling-refused (needed n page bucket) (made n page bucket) output (makeTests n page bucket output) tt
 
-  -- a refusal changes nothing
-  refused-outcome : (v : Verdict) (r : Refusal) → made-told (outcome v n page bucket output .answer) ≡ Verdict.Refused r → outcome v n page bucket output .output ≡ output
-  refused-outcome Verdict.Allowed r e = absurd (allowed-not-refused r e)
-  refused-outcome (Verdict.Refused s) r e = refl
-
-  pub make-refused-keeps : (r : Refusal) → made-told (making n page bucket output .answer) ≡ Verdict.Refused r → making n page bucket output .output ≡ output
+  pub make-refused-keeps : (r : Refusal) → Filling·told (making n page bucket output .answer) ≡ Verdict.Refused r → making n page bucket output .output ≡ output
   unfolding making
-  make-refused-keeps r e = refused-outcome (first (makeTests n page bucket output)) r e
+  make-refused-keeps = filling-refused-keeps (needed n page bucket) (made n page bucket) output (makeTests n page bucket output)
 
   module _ (octets : Octets bucket) (fits : Sized (madeHeader n page bucket)) where
     made-held : (k : ℕ) → Held n (madeEntry n page bucket k)
@@ -174,27 +158,21 @@ module _ (n page : ℕ) (bucket output : List ℕ) where
     made-length-needed = file-length (madeHeader n page bucket) (madeEntry n page bucket) fits made-held
 
     -- with room enough the map stands at the output's start, and the bytes after it are as they were
-    module _ (room : needed n page bucket ≤ length output) where
-      pub make-writes : making n page bucket output ≡ outcomeOf (Made.Written (record { count = needed n page bucket })) (written output 0 (made n page bucket))
-      unfolding making
-      make-writes = simp (fits .n-fits, fits .page-fits, fits .bucket-fits, le-ltb (length output) (needed n page bucket) room)
+    module _ (enough : needed n page bucket ≤ length output) where
+      make-allowed : first (makeTests n page bucket output) ≡ Verdict.Allowed
+      make-allowed = simp (fits .n-fits, fits .page-fits, fits .bucket-fits, le-ltb (length output) (needed n page bucket) enough)
 
-      long : 0 + length (made n page bucket) ≤ length output
-      long = omega (arith, made-length-needed)
+      pub make-answers : making n page bucket output .answer ≡ Written (record { count = needed n page bucket })
+      unfolding making
+      make-answers = ap (λ (v : Verdict). outcome v (needed n page bucket) (made n page bucket) output .answer) make-allowed
 
       pub make-puts : take (needed n page bucket) (making n page bucket output .output) ≡ made n page bucket
-      make-puts =
-          ap (λ (o : Outcome). take (needed n page bucket) (o .output)) make-writes
-          ∙ ap (λ (k : ℕ). take k (written output 0 (made n page bucket))) (sym made-length-needed)
-          ∙ written-inside output 0 (made n page bucket) long
+      unfolding making
+      make-puts = filling-puts (needed n page bucket) (made n page bucket) output (makeTests n page bucket output) made-length-needed enough make-allowed
 
       pub make-keeps-after : drop (needed n page bucket) (making n page bucket output .output) ≡ drop (needed n page bucket) output
-      make-keeps-after =
-          let end : needed n page bucket ≡ 0 + length (made n page bucket) = omega (arith, made-length-needed) in
-          ap (λ (o : Outcome). drop (needed n page bucket) (o .output)) make-writes
-          ∙ ap (λ (k : ℕ). drop k (written output 0 (made n page bucket))) end
-          ∙ written-after output 0 (made n page bucket) long
-          ∙ ap (λ (k : ℕ). drop k output) (sym end)
+      unfolding making
+      make-keeps-after = filling-keeps-after (needed n page bucket) (made n page bucket) output (makeTests n page bucket output) made-length-needed enough make-allowed
 
 -- ---- the sizes at the edges: bytes of a page, bytes of the bucket, pages, and whether they are allowed
 

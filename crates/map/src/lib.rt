@@ -4,16 +4,18 @@ ghost use mathlib.Core.List.{_∷_};
 ghost use Prim.Native.Nat.{_+_, _*_, _^_, _<_, _≤_};
 ghost use lib.ListN.{length, take, drop};
 ghost use Rattle.units.specs.Writing.{written};
+ghost use Rattle.units.specs.Filling.{outcomeOf};
 ghost use Rattle.signature.specs.Objects.{lowFirst};
 ghost use Rattle.signature.specs.Signatures.{handed, upTo};
 ghost use Rattle.map.specs.Numbers.{lowBytes};
 ghost use Rattle.map.specs.Buckets.{pageAt};
 ghost use Rattle.map.specs.Files.{tagged, entries, header as File·header, components as File·components, entry as File·entry, pages as Header·pages, place as File·place, entryBytes, fileBytes};
 ghost use Rattle.map.specs.Reading.{fieldAt, underRule, long, isDue, headerOf, headerTests, entryTests, told, reading, entryAt, nKept, pageKept, bucketKept};
-ghost use Rattle.map.specs.Making.{madeEntry, making, outcomeOf};
+ghost use Rattle.map.specs.Making.{madeEntry, making};
 ghost use Rattle.units.specs.Refusals.{first};
 use signature::Signature;
 use units::Bytes;
+use units::Filled;
 use units::Refusal;
 use units::Symbols;
 
@@ -45,11 +47,6 @@ pub enum Reading {
     Holds(Header),
     // the place of the first break
     Breaks(usize),
-}
-
-pub enum Made {
-    Written(Bytes),
-    Refused(Refusal),
 }
 
 // The field whose tag stands at a place, in a map of n components.
@@ -373,25 +370,25 @@ fn put_entries(h: Header, bucket: &[u8], output: &mut [u8])
 }
 
 // The map of a bucket, written to the start of the output.
-pub fn make(n: usize, page: Bytes, bucket: &[u8], output: &mut [u8]) -> Made
+pub fn make(n: usize, page: Bytes, bucket: &[u8], output: &mut [u8]) -> Filled
     ensures { λ r. ⌜ outcomeOf r (now (output .exit)) ≡ making n (page .count) (now (bucket .entry)) (now (output .entry)) ⌝ }
 {
     if !units::n_allowed(n) {
-        return refused(Refusal::SIZE, 0);
+        return units::refused(Refusal::SIZE, 0);
     }
     if !units::page_allowed(page) {
-        return refused(Refusal::PAGE, 0);
+        return units::refused(Refusal::PAGE, 0);
     }
     let all = Bytes {
         count: bucket.len(),
     };
     let count = units::pages_of(page, all);
     if !units::bucket_allowed(all, count) {
-        return refused(Refusal::LONG, 0);
+        return units::refused(Refusal::LONG, 0);
     }
     let needed = place(n, count);
     if output.len() < needed {
-        return refused(Refusal::ROOM, needed);
+        return units::refused(Refusal::ROOM, needed);
     }
     let h = Header {
         n,
@@ -400,11 +397,5 @@ pub fn make(n: usize, page: Bytes, bucket: &[u8], output: &mut [u8]) -> Made
     };
     put_header(h, output);
     put_entries(h, bucket, output);
-    Made::Written(Bytes { count: needed })
-}
-
-fn refused(number: u32, value: usize) -> Made
-    ensures { λ r. ⌜ r ≡ Made.Refused (record { number = number; value = value }) ⌝ }
-{
-    Made::Refused(Refusal { number, value })
+    Filled::Written(Bytes { count: needed })
 }

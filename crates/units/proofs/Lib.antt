@@ -3,3 +3,4 @@ pub mod Moduli
 pub mod Pieces
 pub mod Refusing
 pub mod Writing
+pub mod Filling

@@ -3,3 +3,4 @@ pub mod Counts
 pub mod Sizes
 pub mod Refusals
 pub mod Writing
+pub mod Filling

@@ -145,3 +145,15 @@ pub enum Verdict {
     Allowed,
     Refused(Refusal),
 }
+
+// What an operation answers that fills the start of a lent output.
+pub enum Filled {
+    Written(Bytes),
+    Refused(Refusal),
+}
+
+pub fn refused(number: u32, value: usize) -> Filled
+    ensures { λ r. ⌜ r ≡ Filled.Refused (record { number = number; value = value }) ⌝ }
+{
+    Filled::Refused(Refusal { number, value })
+}

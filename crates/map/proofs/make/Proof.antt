@@ -1,8 +1,9 @@
 use Rattle.map.proofs.Making.{n-most, page-some, place-most, file-written}
-use Rattle.map.specs.declared.Made.the-variants.{Written, Refused}
-use Rattle.map.specs.declared.Made.{Made}
-use Rattle.map.specs.Making.{making, outcomeOf, needed, made, madeEntry}
+use Rattle.units.specs.declared.Filled.the-variants.{Written, Refused}
+use Rattle.units.specs.declared.Filled.{Filled}
+use Rattle.map.specs.Making.{making, needed, made, madeEntry}
 use Rattle.map.specs.Files.{place, entries}
+use Rattle.units.specs.Filling.{outcomeOf}
 use Rattle.units.specs.Writing.{written}
 use Rattle.units.specs.Sizes.{nAllowed, pageAllowed, bucketAllowed}
 use Rattle.units.specs.Counts.{pagesIn}
@@ -21,7 +22,7 @@ use Rattle.map.proofs.make.Lts as lts
 use Rattle.map.proofs.place.Reads as place-reads
 use Rattle.map.proofs.put_entries.Reads as put-entries-reads
 use Rattle.map.proofs.put_header.Reads as put-header-reads
-use Rattle.map.proofs.refused.Reads as refused-reads
+use Rattle.units.proofs.refused.Reads as refused-reads
 use Rattle.units.proofs.bucket_allowed.Reads as bucket-allowed-reads
 use Rattle.units.proofs.n_allowed.Reads as n-allowed-reads
 use Rattle.units.proofs.page_allowed.Reads as page-allowed-reads
@@ -54,7 +55,7 @@ returns : tie.Need-returns
 unfolding making
 returns c =
     let size : nAllowed (c .before .before .before .before .before .args .n) ≡ false = sym (c .before .before .n-allowed .ensures) ∙ not-true _ (c .before .if1 .taken) in
-    simp size (ap (λ (a : Made). outcomeOf a (c .before .before .before .before .before .args .output .now)) (c .refused .ensures))
+    simp size (ap (λ (a : Filled). outcomeOf a (c .before .before .before .before .before .args .output .now)) (c .refused .ensures))
 
 page-allowed-requires : tie.Need-page-allowed-requires
 page-allowed-requires c κs = search needs
@@ -67,7 +68,7 @@ unfolding making
 returns-2 c =
     let size : nAllowed (c .before .before .before .before .before .before .before .args .n) ≡ true = sym (c .before .before .before .before .n-allowed .ensures) ∙ not-false _ (c .before .before .before .if1 .left) in
     let page : pageAllowed (c .before .before .before .before .before .before .before .args .page .count) ≡ false = sym (c .before .before .page-allowed .ensures) ∙ not-true _ (c .before .if2 .taken) in
-    simp (size, page) (ap (λ (a : Made). outcomeOf a (c .before .before .before .before .before .before .before .args .output .now)) (c .refused2 .ensures))
+    simp (size, page) (ap (λ (a : Filled). outcomeOf a (c .before .before .before .before .before .before .before .args .output .now)) (c .refused2 .ensures))
 
 pages-of-requires : tie.Need-pages-of-requires
 pages-of-requires c κs = search needs
@@ -85,7 +86,7 @@ returns-3 c =
     let size : nAllowed (args .n) ≡ true = sym (c .before .before .before .before .before .before .before .n-allowed .ensures) ∙ not-false _ (c .before .before .before .before .before .before .if1 .left) in
     let page : pageAllowed (args .page .count) ≡ true = sym (c .before .before .before .before .before .page-allowed .ensures) ∙ not-false _ (c .before .before .before .before .if2 .left) in
     let long : bucketAllowed (length (args .bucket .now)) (pagesIn (args .page .count) (length (args .bucket .now))) ≡ false = ap (bucketAllowed (length (args .bucket .now))) (sym (c .before .before .before .pages-of .ensures)) ∙ sym (c .before .before .bucket-allowed .ensures) ∙ not-true _ (c .before .if3 .taken) in
-    simp (size, page, long) (ap (λ (a : Made). outcomeOf a (args .output .now)) (c .refused3 .ensures))
+    simp (size, page, long) (ap (λ (a : Filled). outcomeOf a (args .output .now)) (c .refused3 .ensures))
 
 place-requires : tie.Need-place-requires
 place-requires c κs =
@@ -103,7 +104,7 @@ returns-4 c =
     let fits : Sized (args .n) (args .page .count) (args .bucket .now) = sized (c .before .before .before) in
     let room : c .before .before .place .result ≡ needed (args .n) (args .page .count) (args .bucket .now) = c .before .before .place .ensures ∙ ap (place (args .n)) (c .before .before .before .before .before .pages-of .ensures) in
     let short : length (args .output .now) < needed (args .n) (args .page .count) (args .bucket .now) = omega arith in
-    simp (fits .size, fits .paged, fits .long, lt-ltb _ _ short) (ap (λ (a : Made). outcomeOf a (args .output .now)) (c .refused4 .ensures ∙ ap (λ (k : ℕ). Refused (record { number = 7; value = k })) room))
+    simp (fits .size, fits .paged, fits .long, lt-ltb _ _ short) (ap (λ (a : Filled). outcomeOf a (args .output .now)) (c .refused4 .ensures ∙ ap (λ (k : ℕ). Refused (record { number = 7; value = k })) room))
 
 put-header-requires : tie.Need-put-header-requires
 put-header-requires c κs = search needs
