@@ -7,9 +7,17 @@ use native.Mathlib.Nat.{add-zero, zero-add, add-suc, suc-add, zero-mul, suc-mul,
 use native.Mathlib.Omega.{arith}
 use lib.ListN.{length, take, drop, length-append}
 use lib.Seq.{take-add, drop-drop}
-use Rattle.units.specs.Writing.{written}
-use Rattle.units.proofs.Writing.{written-append}
+use Rattle.units.specs.Writing.{written, Put, put}
+use Rattle.units.proofs.Writing.{put-then}
 use Rattle.map.specs.Numbers.{endToEnd}
+
+-- one list, and then the others
+pub run-step : (f : ℕ → List ℕ) (old : List ℕ) (at m k : ℕ) → at + length (endToEnd f k (suc m)) ≤ length old
+    → put (written old at (f k)) (at + length (f k)) (endToEnd f (suc k) m) ≡ put old at (endToEnd f k (suc m))
+unfolding endToEnd
+run-step f old at m k fits =
+    let both : length (f k ++ endToEnd f (suc k) m) ≡ length (f k) + length (endToEnd f (suc k) m) = length-append (f k) (endToEnd f (suc k) m) in
+    put-then old (written old at (f k)) _ at (at + length (f k)) _ (f k) (endToEnd f (suc k) m) (omega arith) refl refl
 
 module _ (f : ℕ → List ℕ) (size : ℕ) (sized : (k : ℕ) → length (f k) ≡ size) where
   pub run-length : (m k : ℕ) → length (endToEnd f k m) ≡ m * size
@@ -19,10 +27,9 @@ module _ (f : ℕ → List ℕ) (size : ℕ) (sized : (k : ℕ) → length (f k)
 
   pub run-turn : (old : List ℕ) (at m k : ℕ) → at + suc m * size ≤ length old
       → written (written old at (f k)) (at + size) (endToEnd f (suc k) m) ≡ written old at (endToEnd f k (suc m))
-  unfolding endToEnd
   run-turn old at m k fits =
       ap (λ (s : ℕ). written (written old at (f k)) (at + s) (endToEnd f (suc k) m)) (sym (sized k))
-      ∙ written-append old at (f k) (endToEnd f (suc k) m) (omega (arith, sized k, run-length m (suc k), suc-mul m size))
+      ∙ ap (λ (p : Put). p .buffer) (run-step f old at m k (omega (arith, run-length (suc m) k)))
 
 pub run-none : (f : ℕ → List ℕ) (k : ℕ) → endToEnd f k 0 ≡ []
 unfolding endToEnd

@@ -1,14 +1,15 @@
 -- The laws of a part written over: its length, what stands before it, in it and after it, and a part written right after a part.
 -- Assumes nothing.
-use mathlib.Core.Path.{_≡_, refl, sym, ap, _∙_}
+use mathlib.Core.Path.{_≡_, refl, sym, ap, ap₂, _∙_}
+use mathlib.Core.Logic.{_≢_}
 use mathlib.Core.List.{List, [], _∷_, _++_, append-assoc}
 use Prim.Native.Nat.{ℕ, suc, _+_, _≤_, _<_}
-use native.Mathlib.Nat.{add-zero, add-suc, suc-add}
+use native.Mathlib.Nat.{add-zero, add-suc, suc-add, le-refl}
 use native.Mathlib.Numerals.{add-one}
 use native.Mathlib.Omega.{arith}
 use lib.ListN.{length, take, drop, set, length-append, length-set}
-use lib.Seq.{sets, sets-eq, length-sets, length-take-le, take-at, drop-at}
-use Rattle.units.specs.Writing.{written}
+use lib.Seq.{sets, sets-eq, length-sets, length-take-le, set-comm, take-at, drop-at}
+use Rattle.units.specs.Writing.{written, Put, putOf, put}
 
 -- element by element, from the first of the new part on
 pub written-sets : (old : List ℕ) (at : ℕ) (new : List ℕ) → at + length new ≤ length old → written old at new ≡ sets old at new
@@ -47,6 +48,36 @@ written-append old at xs ys fits =
     ∙ written-sets (sets old at xs) (at + length xs) ys second
     ∙ sets-append xs ys old at
     ∙ sym (written-sets old at (xs ++ ys) both)
+
+sets-before : (xs old : List ℕ) (at k x : ℕ) → at + length xs ≤ k → sets (set old k x) at xs ≡ set (sets old at xs) k x
+sets-before [] old at k x far = refl
+sets-before (y ∷ ys) old at k x far =
+    let apart : k ≢ at = omega arith in
+    ap (λ (l : List ℕ). sets l (suc at) ys) (set-comm old k at x y apart) ∙ sets-before ys (set old at y) (suc at) k x (omega arith)
+
+-- the last element, and then those before it
+pub written-last : (old : List ℕ) (at : ℕ) (xs : List ℕ) (x : ℕ) → at + length xs < length old
+    → written (set old (at + length xs) x) at xs ≡ written old at (xs ++ (x ∷ []))
+written-last old at xs x fits =
+    let room : at + length xs ≤ length (set old (at + length xs) x) = omega (arith, length-set old (at + length xs) x) in
+    let long : at + length (xs ++ (x ∷ [])) ≤ length old = omega (arith, length-append xs (x ∷ [])) in
+    written-sets (set old (at + length xs) x) at xs room
+    ∙ sets-before xs old at (at + length xs) x (le-refl (at + length xs))
+    ∙ sets-append xs (x ∷ []) old at
+    ∙ sym (written-sets old at (xs ++ (x ∷ [])) long)
+
+-- the place after a part
+pub put-next : (old new : List ℕ) (at next : ℕ) (xs : List ℕ) → putOf new next ≡ put old at xs → next ≡ at + length xs
+put-next old new at next xs e = ap (λ (p : Put). p .next) e
+
+-- one part, and then another right after it
+pub put-then : (old one two : List ℕ) (at next end : ℕ) (xs ys : List ℕ) → at + (length xs + length ys) ≤ length old
+    → putOf one next ≡ put old at xs → putOf two end ≡ put one next ys → putOf two end ≡ put old at (xs ++ ys)
+put-then old one two at next end xs ys fits first second =
+    let far : at + length xs + length ys ≡ at + length (xs ++ ys) = omega (arith, length-append xs ys) in
+    second
+    ∙ ap (λ (p : Put). put (p .buffer) (p .next) ys) first
+    ∙ ap₂ putOf (written-append old at xs ys fits) far
 
 module _ (old : List ℕ) (at : ℕ) (new : List ℕ) (fits : at + length new ≤ length old) where
   front : length (take at old) ≡ at

@@ -6,3 +6,14 @@ use lib.ListN.{length, take, drop}
 -- the elements before place `at`, the new part, and the elements after it
 unfoldable pub written : List ℕ → ℕ → List ℕ → List ℕ
 written old at new = take at old ++ (new ++ drop (at + length new) old)
+
+-- what a function does that writes a part at a place: the buffer, and the place after the part
+pub record Put : Type 0 where
+  pub buffer : List ℕ
+  pub next : ℕ
+
+abbrev pub putOf : List ℕ → ℕ → Put
+putOf buffer next = record { buffer = buffer; next = next }
+
+abbrev pub put : List ℕ → ℕ → List ℕ → Put
+put old at new = putOf (written old at new) (at + length new)
