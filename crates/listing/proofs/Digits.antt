@@ -1,9 +1,11 @@
 -- How many digits there are, one turn at a time, and that they read back as the number.
 -- Assumes nothing.
 use mathlib.Core.Path.{_≡_, refl, ap, _∙_}
+use mathlib.Core.Logic.{dite}
 use mathlib.Core.List.{List, [], _∷_, _++_}
 use Prim.Native.Nat.{ℕ, zero, suc, _+_, _*_, _/_, _%_, _≤_, _<_, _^_}
 use native.Mathlib.Nat.{le-refl}
+use native.Mathlib.Decide.{decLt}
 use native.Mathlib.Omega.{arith}
 use lib.ListN.{length, length-append}
 use borrow.Author.Tests.{lt-ltb, le-ltb}
@@ -34,6 +36,14 @@ width-more more x large = simp (le-ltb x 10 large)
 pub width-end : (x : ℕ) → widthWithin 0 x ≡ 1
 unfolding widthWithin
 width-end x = refl
+
+pub width-most : (more x : ℕ) → widthWithin more x ≤ suc more
+unfolding widthWithin
+width-most zero x = le-refl 1
+width-most (suc more) x =
+    dite (decLt x 10)
+    (λ (small : x < 10). omega (arith, width-one more x small))
+    (λ large. let tens : 10 ≤ x = omega arith in omega (arith, width-more more x tens, width-most more (x / 10)))
 
 pub digits-none : (base x : ℕ) → digits base 0 x ≡ []
 unfolding digits

@@ -32,10 +32,17 @@ module _ (h : Header) where
   pub header-line-length : length (headerLine h) ≡ 24 + width (h .n) + width (h .page .count) + width (h .bucket .count) + width (pages h)
   unfolding headerLine n-part page-part bucket-part pages-part
   header-line-length =
-      omega
-      (arith, length-append n-part page-part, length-append (n-part ++ page-part) bucket-part, length-append (n-part ++ page-part ++ bucket-part) pages-part,
-      length-append (n-part ++ page-part ++ bucket-part ++ pages-part) lineEnd, named-length nWord (h .n), named-length pageWord (h .page .count),
-      named-length bucketWord (h .bucket .count), named-length pagesWord (pages h))
+      omega (
+        arith,
+        length-append n-part page-part,
+        length-append (n-part ++ page-part) bucket-part,
+        length-append (n-part ++ page-part ++ bucket-part) pages-part,
+        length-append (n-part ++ page-part ++ bucket-part ++ pages-part) lineEnd,
+        named-length nWord (h .n),
+        named-length pageWord (h .page .count),
+        named-length bucketWord (h .bucket .count),
+        named-length pagesWord (pages h),
+      )
 
 pub column-length : (x : ℕ) → length (32 ∷ hex x) ≡ 5
 column-length x = ap suc (hex-length x)

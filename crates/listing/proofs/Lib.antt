@@ -1,3 +1,5 @@
 -- The laws that belong to no one function.
 pub mod Digits
 pub mod Lengths
+pub mod Pages
+pub mod Texts

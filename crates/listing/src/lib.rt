@@ -126,3 +126,78 @@ fn put_page_line(k: usize, s: Signature, output: &mut [u8], at: usize) -> usize
     let components = put_columns(s, output, number);
     put_text(b"\n", output, components)
 }
+
+// A line for each page, in page order.
+fn put_page_lines(h: Header, map: &[u8], output: &mut [u8], at: usize)
+    requires { ⌜ (h .n ≤ 4) × (place (h .n) (Header·pages h) ≤ length (now map)) × (at + length (endToEnd (lineOf (h .n) (now map)) 0 (Header·pages h)) ≤ length (now output)) ⌝ }
+    ensures { λ _. ⌜ now (output .exit) ≡ written (now (output .entry)) at (endToEnd (lineOf (h .n) (now (map .entry))) 0 (Header·pages h)) ⌝ }
+{
+    let n = h.n;
+    let count = map::pages(h);
+    let mut k: usize = 0;
+    let mut to = at;
+    while k < count {
+        let e = map::entry_at(n, map, k);
+        to = put_page_line(k, e.signature, output, to);
+        k += 1;
+    }
+}
+
+fn header_line_bytes(h: Header) -> usize
+    ensures { λ r. ⌜ r ≡ length (headerLine h) ⌝ }
+{
+    24 + width(h.n) + width(h.page.count) + width(h.bucket.count) + width(map::pages(h))
+}
+
+// Their lines' bytes, whatever the components: lines of zeros are as long.
+fn page_lines_bytes(h: Header) -> usize
+    requires { ⌜ (h .n ≤ 4) × (Header·pages h ≤ 4096) ⌝ }
+    ensures { λ r. ⌜ r ≡ length (endToEnd (λ k. pageLine (h .n) k (λ j. 0)) 0 (Header·pages h)) ⌝ }
+{
+    let n = h.n;
+    let count = map::pages(h);
+    let mut total: usize = 0;
+    let mut k: usize = 0;
+    while k < count {
+        total += width(k) + 5 * n + 1;
+        k += 1;
+    }
+    total
+}
+
+// The listing of a map that holds what its header says.
+fn list_held(h: Header, map: &[u8], output: &mut [u8]) -> Filled
+    requires { ⌜ (h .n ≤ 4) × (Header·pages h ≤ 4096) × (place (h .n) (Header·pages h) ≤ length (now map)) ⌝ }
+    ensures { λ r. ⌜ outcomeOf r (now (output .exit)) ≡ textOut (listed (now (map .entry)) (Reading.Holds h)) (now (output .entry)) ⌝ }
+{
+    let needed = header_line_bytes(h) + page_lines_bytes(h);
+    if output.len() < needed {
+        return units::refused(Refusal::ROOM, needed);
+    }
+    let start = put_header_line(h, output);
+    put_page_lines(h, map, output, start);
+    Filled::Written(Bytes { count: needed })
+}
+
+fn list_refused(at: usize, output: &mut [u8]) -> Filled
+    ensures { λ r. ⌜ outcomeOf r (now (output .exit)) ≡ textOut (refusedLine at) (now (output .entry)) ⌝ }
+{
+    let needed = 16 + width(at);
+    if output.len() < needed {
+        return units::refused(Refusal::ROOM, needed);
+    }
+    let end = put_named(b"map refused at ", at, output, 0);
+    put_text(b"\n", output, end);
+    Filled::Written(Bytes { count: needed })
+}
+
+// The whole listing of any bytes, put at the start of the output.
+pub fn list(map: &[u8], output: &mut [u8]) -> Filled
+    ensures { λ r. ⌜ outcomeOf r (now (output .exit)) ≡ textOut (listing (now (map .entry))) (now (output .entry)) ⌝ }
+{
+    let reading = map::read(map);
+    match reading {
+        Reading::Breaks(at) => list_refused(at, output),
+        Reading::Holds(h) => list_held(h, map, output),
+    }
+}

@@ -12,3 +12,4 @@ pub mod Contents
 pub mod Readback
 pub mod Octets
 pub mod Maps
+pub mod Holding

@@ -25,6 +25,7 @@ use Rattle.map.proofs.Numbers.{read-written}
 use Rattle.map.proofs.Fields.{Due, n-due, page-due, bucket-due}
 use Rattle.map.proofs.Entries.{entry-due, quiet-due, quiet-end}
 use Rattle.map.proofs.Headers.{Kept, told-holds, n-small}
+use Rattle.map.proofs.Holding.{quiet-kept}
 use Rattle.map.proofs.Runs.{run-same, run-back}
 use Rattle.map.proofs.Back.{tagged-back}
 
@@ -70,7 +71,7 @@ module _ (bytes : List ℕ) (octets : Octets bytes) where
 
   module _ (q : Quiet (mapTests bytes)) where
     kept : Kept bytes
-    kept = record { n = not-false _ (q .0); page = not-false _ (q .1 .0); bucket = not-false _ (q .1 .1 .0) }
+    kept = quiet-kept bytes q
 
     whole : file (headerOf bytes) (entryAt (headerOf bytes .n) bytes) ≡ bytes
     unfolding file

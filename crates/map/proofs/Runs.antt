@@ -31,6 +31,15 @@ module _ (f : ℕ → List ℕ) (size : ℕ) (sized : (k : ℕ) → length (f k)
       ap (λ (s : ℕ). written (written old at (f k)) (at + s) (endToEnd f (suc k) m)) (sym (sized k))
       ∙ ap (λ (p : Put). p .buffer) (run-step f old at m k (omega (arith, run-length (suc m) k)))
 
+pub run-more : (f : ℕ → List ℕ) (m k : ℕ) → length (endToEnd f k (suc m)) ≡ length (f k) + length (endToEnd f (suc k) m)
+unfolding endToEnd
+run-more f m k = length-append (f k) (endToEnd f (suc k) m)
+
+pub run-as-long : (f g : ℕ → List ℕ) → ((i : ℕ) → length (f i) ≡ length (g i)) → (m k : ℕ) → length (endToEnd f k m) ≡ length (endToEnd g k m)
+unfolding endToEnd
+run-as-long f g e zero k = refl
+run-as-long f g e (suc m) k = run-more f m k ∙ ap₂ _+_ (e k) (run-as-long f g e m (suc k)) ∙ sym (run-more g m k)
+
 pub run-none : (f : ℕ → List ℕ) (k : ℕ) → endToEnd f k 0 ≡ []
 unfolding endToEnd
 run-none f k = refl

@@ -31,8 +31,15 @@ slice-aggregate-put-named-2 c = search needs
 put-named-requires-2 : tie.Need-put-named-requires-2
 put-named-requires-2 c κs =
     let h : Header = c .before .before .before .before .before .before .before .before .args .h in
-    omega (arith, header-line-length h, named-length nWord (h .n), named-length pageWord (h .page .count), put-next _ _ _ _ _ (c .before .before .before .before .put-named .ensures),
-    c .before .before .before .before .put-named .kept .1 .1 .0, c .before .before .before .before .before .before .before .before .pre)
+    omega (
+      arith,
+      header-line-length h,
+      named-length nWord (h .n),
+      named-length pageWord (h .page .count),
+      put-next _ _ _ _ _ (c .before .before .before .before .put-named .ensures),
+      c .before .before .before .before .put-named .kept .1 .1 .0,
+      c .before .before .before .before .before .before .before .before .pre,
+    )
 
 slice-aggregate-put-named-3 : tie.Need-slice-aggregate-put-named-3
 slice-aggregate-put-named-3 c = search needs
@@ -40,8 +47,18 @@ slice-aggregate-put-named-3 c = search needs
 put-named-requires-3 : tie.Need-put-named-requires-3
 put-named-requires-3 c κs =
     let h : Header = c .before .before .before .before .before .before .before .before .before .before .before .before .before .args .h in
-    omega (arith, header-line-length h, named-length nWord (h .n), named-length pageWord (h .page .count), named-length bucketWord (h .bucket .count),
-    put-next _ _ _ _ _ (c .before .before .before .before .before .before .before .before .before .put-named .ensures), put-next _ _ _ _ _ (c .before .before .before .before .put-named2 .ensures), c .before .before .before .before .before .before .before .before .before .put-named .kept .1 .1 .0, c .before .before .before .before .put-named2 .kept .1 .1 .0, c .before .before .before .before .before .before .before .before .before .before .before .before .before .pre)
+    omega (
+      arith,
+      header-line-length h,
+      named-length nWord (h .n),
+      named-length pageWord (h .page .count),
+      named-length bucketWord (h .bucket .count),
+      put-next _ _ _ _ _ (c .before .before .before .before .before .before .before .before .before .put-named .ensures),
+      put-next _ _ _ _ _ (c .before .before .before .before .put-named2 .ensures),
+      c .before .before .before .before .before .before .before .before .before .put-named .kept .1 .1 .0,
+      c .before .before .before .before .put-named2 .kept .1 .1 .0,
+      c .before .before .before .before .before .before .before .before .before .before .before .before .before .pre,
+    )
 
 slice-aggregate-put-named-4 : tie.Need-slice-aggregate-put-named-4
 slice-aggregate-put-named-4 c = search needs
@@ -53,9 +70,22 @@ put-named-requires-4 : tie.Need-put-named-requires-4
 put-named-requires-4 c κs =
     let h : Header = c .before .before .before .before .before .before .before .before .before .before .before .before .before .before .before .before .before .before .before .args .h in
     let count : c .before .pages .result ≡ pages h = c .before .pages .ensures in
-    omega (arith, header-line-length h, named-length nWord (h .n), named-length pageWord (h .page .count), named-length bucketWord (h .bucket .count),
-    named-length pagesWord (c .before .pages .result), ap width count, put-next _ _ _ _ _ (c .before .before .before .before .before .before .before .before .before .before .before .before .before .before .before .put-named .ensures), put-next _ _ _ _ _ (c .before .before .before .before .before .before .before .before .before .before .put-named2 .ensures),
-    put-next _ _ _ _ _ (c .before .before .before .before .before .put-named3 .ensures), c .before .before .before .before .before .before .before .before .before .before .before .before .before .before .before .put-named .kept .1 .1 .0, c .before .before .before .before .before .before .before .before .before .before .put-named2 .kept .1 .1 .0, c .before .before .before .before .before .put-named3 .kept .1 .1 .0, c .before .before .before .before .before .before .before .before .before .before .before .before .before .before .before .before .before .before .before .pre)
+    omega (
+      arith,
+      header-line-length h,
+      named-length nWord (h .n),
+      named-length pageWord (h .page .count),
+      named-length bucketWord (h .bucket .count),
+      named-length pagesWord (c .before .pages .result),
+      ap width count,
+      put-next _ _ _ _ _ (c .before .before .before .before .before .before .before .before .before .before .before .before .before .before .before .put-named .ensures),
+      put-next _ _ _ _ _ (c .before .before .before .before .before .before .before .before .before .before .put-named2 .ensures),
+      put-next _ _ _ _ _ (c .before .before .before .before .before .put-named3 .ensures),
+      c .before .before .before .before .before .before .before .before .before .before .before .before .before .before .before .put-named .kept .1 .1 .0,
+      c .before .before .before .before .before .before .before .before .before .before .put-named2 .kept .1 .1 .0,
+      c .before .before .before .before .before .put-named3 .kept .1 .1 .0,
+      c .before .before .before .before .before .before .before .before .before .before .before .before .before .before .before .before .before .before .before .pre,
+    )
 
 slice-aggregate-put-text : tie.Need-slice-aggregate-put-text
 slice-aggregate-put-text c = search needs
@@ -64,10 +94,24 @@ put-text-requires : tie.Need-put-text-requires
 put-text-requires c κs =
     let h : Header = c .before .before .before .before .before .before .before .before .before .before .before .before .before .before .before .before .before .before .before .before .before .before .before .before .args .h in
     let count : c .before .before .before .before .before .before .pages .result ≡ pages h = c .before .before .before .before .before .before .pages .ensures in
-    omega (arith, header-line-length h, named-length nWord (h .n), named-length pageWord (h .page .count), named-length bucketWord (h .bucket .count),
-    named-length pagesWord (c .before .before .before .before .before .before .pages .result), ap width count, put-next _ _ _ _ _ (c .before .before .before .before .before .before .before .before .before .before .before .before .before .before .before .before .before .before .before .before .put-named .ensures), put-next _ _ _ _ _ (c .before .before .before .before .before .before .before .before .before .before .before .before .before .before .before .put-named2 .ensures),
-    put-next _ _ _ _ _ (c .before .before .before .before .before .before .before .before .before .before .put-named3 .ensures), put-next _ _ _ _ _ (c .before .before .before .before .put-named4 .ensures), c .before .before .before .before .before .before .before .before .before .before .before .before .before .before .before .before .before .before .before .before .put-named .kept .1 .1 .0, c .before .before .before .before .before .before .before .before .before .before .before .before .before .before .before .put-named2 .kept .1 .1 .0,
-    c .before .before .before .before .before .before .before .before .before .before .put-named3 .kept .1 .1 .0, c .before .before .before .before .put-named4 .kept .1 .1 .0, c .before .before .before .before .before .before .before .before .before .before .before .before .before .before .before .before .before .before .before .before .before .before .before .before .pre)
+    omega (
+      arith,
+      header-line-length h,
+      named-length nWord (h .n),
+      named-length pageWord (h .page .count),
+      named-length bucketWord (h .bucket .count),
+      named-length pagesWord (c .before .before .before .before .before .before .pages .result),
+      ap width count,
+      put-next _ _ _ _ _ (c .before .before .before .before .before .before .before .before .before .before .before .before .before .before .before .before .before .before .before .before .put-named .ensures),
+      put-next _ _ _ _ _ (c .before .before .before .before .before .before .before .before .before .before .before .before .before .before .before .put-named2 .ensures),
+      put-next _ _ _ _ _ (c .before .before .before .before .before .before .before .before .before .before .put-named3 .ensures),
+      put-next _ _ _ _ _ (c .before .before .before .before .put-named4 .ensures),
+      c .before .before .before .before .before .before .before .before .before .before .before .before .before .before .before .before .before .before .before .before .put-named .kept .1 .1 .0,
+      c .before .before .before .before .before .before .before .before .before .before .before .before .before .before .before .put-named2 .kept .1 .1 .0,
+      c .before .before .before .before .before .before .before .before .before .before .put-named3 .kept .1 .1 .0,
+      c .before .before .before .before .put-named4 .kept .1 .1 .0,
+      c .before .before .before .before .before .before .before .before .before .before .before .before .before .before .before .before .before .before .before .before .before .before .before .before .pre,
+    )
 
 same-length : tie.Need-same-length
 same-length c = search needs

@@ -28,8 +28,15 @@ put-decimal-requires c κs =
 put-columns-requires : tie.Need-put-columns-requires
 put-columns-requires c κs =
     let s : Signature = c .before .before .before .before .before .before .args .s in
-    omega (arith, page-line-length (s .n) (c .before .before .before .before .before .before .args .k) (handed s), decimal-length (c .before .before .before .before .before .before .args .k), columns-length (s .n) (handed s),
-    put-next _ _ _ _ _ (c .before .before .before .put-decimal .ensures), c .before .before .before .put-decimal .kept .1 .0, c .before .before .before .before .before .before .pre)
+    omega (
+      arith,
+      page-line-length (s .n) (c .before .before .before .before .before .before .args .k) (handed s),
+      decimal-length (c .before .before .before .before .before .before .args .k),
+      columns-length (s .n) (handed s),
+      put-next _ _ _ _ _ (c .before .before .before .put-decimal .ensures),
+      c .before .before .before .put-decimal .kept .1 .0,
+      c .before .before .before .before .before .before .pre,
+    )
 
 slice-aggregate-put-text : tie.Need-slice-aggregate-put-text
 slice-aggregate-put-text c = search needs
@@ -37,8 +44,17 @@ slice-aggregate-put-text c = search needs
 put-text-requires : tie.Need-put-text-requires
 put-text-requires c κs =
     let s : Signature = c .before .before .before .before .before .before .before .before .before .before .before .args .s in
-    omega (arith, page-line-length (s .n) (c .before .before .before .before .before .before .before .before .before .before .before .args .k) (handed s), decimal-length (c .before .before .before .before .before .before .before .before .before .before .before .args .k), columns-length (s .n) (handed s),
-    put-next _ _ _ _ _ (c .before .before .before .before .before .before .before .before .put-decimal .ensures), put-next _ _ _ _ _ (c .before .before .before .before .put-columns .ensures), c .before .before .before .before .before .before .before .before .put-decimal .kept .1 .0, c .before .before .before .before .put-columns .kept .1 .0, c .before .before .before .before .before .before .before .before .before .before .before .pre)
+    omega (
+      arith,
+      page-line-length (s .n) (c .before .before .before .before .before .before .before .before .before .before .before .args .k) (handed s),
+      decimal-length (c .before .before .before .before .before .before .before .before .before .before .before .args .k),
+      columns-length (s .n) (handed s),
+      put-next _ _ _ _ _ (c .before .before .before .before .before .before .before .before .put-decimal .ensures),
+      put-next _ _ _ _ _ (c .before .before .before .before .put-columns .ensures),
+      c .before .before .before .before .before .before .before .before .put-decimal .kept .1 .0,
+      c .before .before .before .before .put-columns .kept .1 .0,
+      c .before .before .before .before .before .before .before .before .before .before .before .pre,
+    )
 
 same-length : tie.Need-same-length
 same-length c = search needs
