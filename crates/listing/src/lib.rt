@@ -19,6 +19,9 @@ use units::Bytes;
 use units::Filled;
 use units::Refusal;
 
+// No listing is longer.
+pub const LISTING_BYTES_MOST: usize = 168_040;
+
 fn digit(d: usize) -> u8
     requires { ⌜ d < 16 ⌝ }
     ensures { λ r. ⌜ r ≡ Digits·digit d ⌝ }
