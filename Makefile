@@ -3,13 +3,17 @@
 
 demo: kit
 	@mkdir -p target
-	@echo "Proving and building the program cases (a minute from nothing) .."
-	@rt check cases > target/demo.log 2>&1 || { cat target/demo.log; exit 1; }
+	@echo "Proving and building the programs cases, maps and maplist (two minutes from nothing) .."
+	@rt check cases maps maplist > target/demo.log 2>&1 || { cat target/demo.log; exit 1; }
 	@target/bin/cases
+	@echo "maps made"
+	@target/bin/maps
+	@echo "the map of case 12, listed"
+	@target/bin/maplist < runs/maplist/case-12.in
 
 test: kit
 	rt fmt --check
-	rt ci
+	runs/gate
 
 # The kit that the proofs were last seen to pass with is named in kit.txt; another one may do as well.
 kit:
