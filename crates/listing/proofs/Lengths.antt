@@ -9,40 +9,27 @@ use Rattle.map.specs.Files.{pages}
 use Rattle.map.specs.declared.Header.{Header}
 use Rattle.map.proofs.Runs.{run-length}
 use Rattle.listing.specs.Digits.{width, decimal, hex}
-use Rattle.listing.specs.Lines.{nWord, pageWord, bucketWord, pagesWord, refusedWord, lineEnd, named, headerLine, columns, pageLine, refusedLine}
+use Rattle.listing.specs.Lines.{nWord, pageWord, bucketWord, pagesWord, refusedWord, lineEnd, named, twoNamed, headerLine, columns, pageLine, refusedLine}
 use Rattle.listing.proofs.Digits.{decimal-length, hex-length}
 
 pub named-length : (word : List ℕ) (x : ℕ) → length (named word x) ≡ length word + width x
 named-length word x = omega (arith, length-append word (decimal x), decimal-length x)
 
--- the header's four numbers
-module _ (h : Header) where
-  n-part : List ℕ
-  n-part = named nWord (h .n)
+pub two-named-length : (one : List ℕ) (x : ℕ) (two : List ℕ) (y : ℕ) → length (twoNamed one x two y) ≡ length one + width x + (length two + width y)
+two-named-length one x two y = omega (arith, length-append (named one x) (named two y), named-length one x, named-length two y)
 
-  page-part : List ℕ
-  page-part = named pageWord (h .page .count)
-
-  bucket-part : List ℕ
-  bucket-part = named bucketWord (h .bucket .count)
-
-  pages-part : List ℕ
-  pages-part = named pagesWord (pages h)
-
-  pub header-line-length : length (headerLine h) ≡ 24 + width (h .n) + width (h .page .count) + width (h .bucket .count) + width (pages h)
-  unfolding headerLine n-part page-part bucket-part pages-part
-  header-line-length =
-      omega (
-        arith,
-        length-append n-part page-part,
-        length-append (n-part ++ page-part) bucket-part,
-        length-append (n-part ++ page-part ++ bucket-part) pages-part,
-        length-append (n-part ++ page-part ++ bucket-part ++ pages-part) lineEnd,
-        named-length nWord (h .n),
-        named-length pageWord (h .page .count),
-        named-length bucketWord (h .bucket .count),
-        named-length pagesWord (pages h),
-      )
+pub header-line-length : (h : Header) → length (headerLine h) ≡ 24 + width (h .n) + width (h .page .count) + width (h .bucket .count) + width (pages h)
+unfolding headerLine
+header-line-length h =
+    let one : List ℕ = twoNamed nWord (h .n) pageWord (h .page .count) in
+    let two : List ℕ = twoNamed bucketWord (h .bucket .count) pagesWord (pages h) in
+    omega (
+      arith,
+      length-append one two,
+      length-append (one ++ two) lineEnd,
+      two-named-length nWord (h .n) pageWord (h .page .count),
+      two-named-length bucketWord (h .bucket .count) pagesWord (pages h),
+    )
 
 pub column-length : (x : ℕ) → length (32 ∷ hex x) ≡ 5
 column-length x = ap suc (hex-length x)

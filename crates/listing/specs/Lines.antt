@@ -39,9 +39,12 @@ lineEnd = 10 ∷ []
 abbrev pub named : List ℕ → ℕ → List ℕ
 named word x = word ++ decimal x
 
+-- and another word with its number
+abbrev pub twoNamed : List ℕ → ℕ → List ℕ → ℕ → List ℕ
+twoNamed one x two y = named one x ++ named two y
+
 unfoldable pub headerLine : Header → List ℕ
-headerLine h =
-    named nWord (h .n) ++ named pageWord (h .page .count) ++ named bucketWord (h .bucket .count) ++ named pagesWord (pages h) ++ lineEnd
+headerLine h = twoNamed nWord (h .n) pageWord (h .page .count) ++ twoNamed bucketWord (h .bucket .count) pagesWord (pages h) ++ lineEnd
 
 -- n components, each after a space
 unfoldable pub columns : ℕ → (ℕ → ℕ) → List ℕ

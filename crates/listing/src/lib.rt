@@ -11,7 +11,7 @@ ghost use Rattle.map.specs.Files.{place, entryBytes};
 ghost use Rattle.map.specs.Files.{pages as Header·pages};
 ghost use Rattle.listing.specs.Digits.{digits, decimal};
 ghost use Rattle.listing.specs.Digits.{digit as Digits·digit, width as Digits·width};
-ghost use Rattle.listing.specs.Lines.{named, headerLine, columns, pageLine, refusedLine, lineOf, listed, listing, textOut};
+ghost use Rattle.listing.specs.Lines.{named, twoNamed, headerLine, columns, pageLine, refusedLine, lineOf, listed, listing, textOut};
 use map::Header;
 use map::Reading;
 use signature::Signature;
@@ -92,14 +92,27 @@ fn put_named(word: &[u8], x: usize, output: &mut [u8], at: usize) -> usize
     put_decimal(x, output, next)
 }
 
+fn put_two_named(one: &[u8], x: usize, two: &[u8], y: usize, output: &mut [u8], at: usize) -> usize
+    requires { ⌜ at + length (twoNamed (now one) x (now two) y) ≤ length (now output) ⌝ }
+    ensures { λ r. ⌜ putOf (now (output .exit)) r ≡ put (now (output .entry)) at (twoNamed (now (one .entry)) x (now (two .entry)) y) ⌝ }
+{
+    let next = put_named(one, x, output, at);
+    put_named(two, y, output, next)
+}
+
 fn put_header_line(h: Header, output: &mut [u8]) -> usize
     requires { ⌜ length (headerLine h) ≤ length (now output) ⌝ }
     ensures { λ r. ⌜ putOf (now (output .exit)) r ≡ put (now (output .entry)) 0 (headerLine h) ⌝ }
 {
-    let n = put_named(b"n ", h.n, output, 0);
-    let page = put_named(b" page ", h.page.count, output, n);
-    let bucket = put_named(b" bucket ", h.bucket.count, output, page);
-    let pages = put_named(b" pages ", map::pages(h), output, bucket);
+    let page = put_two_named(b"n ", h.n, b" page ", h.page.count, output, 0);
+    let pages = put_two_named(
+        b" bucket ",
+        h.bucket.count,
+        b" pages ",
+        map::pages(h),
+        output,
+        page,
+    );
     put_text(b"\n", output, pages)
 }
 

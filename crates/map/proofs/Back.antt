@@ -1,13 +1,13 @@
 -- A field that is due, written again: it is the very bytes that it was read from.
 -- Assumes nothing.
-use mathlib.Core.Path.{_≡_, refl, sym, ap, ap₂, _∙_}
+use mathlib.Core.Path.{_≡_, sym, ap, ap₂, _∙_}
 use mathlib.Core.List.{List, _∷_, _++_}
 use Prim.Native.Nat.{ℕ, suc, _+_, _-_, _<_}
 use native.Mathlib.Numerals.{add-one}
 use native.Mathlib.Omega.{arith}
-use lib.ListN.{length, getD, take, drop, length-drop}
+use lib.ListN.{length, take, drop, length-drop}
 use lib.Seq.{drop-cons, drop-drop, take-add, length-take-le}
-use Rattle.signature.specs.Objects.{Octets, lowFirst}
+use Rattle.signature.specs.Objects.{Octets}
 use Rattle.map.specs.Numbers.{lowBytes}
 use Rattle.map.specs.Files.{tagged}
 use Rattle.map.proofs.Numbers.{read-written}

@@ -1,14 +1,12 @@
 -- What a file holds is what it was made from: its header, and each of its entries, are read back.
 -- Assumes nothing.
-use mathlib.Core.Path.{_≡_, refl, sym, ap, ap₂, _∙_, subst}
+use mathlib.Core.Path.{_≡_, refl, sym, ap, ap₂, _∙_}
 use mathlib.Core.Bool.{true, _&&_}
 use mathlib.Core.List.{List, [], _++_, append-assoc}
 use Prim.Native.Nat.{ℕ, zero, suc, _+_, _-_, _*_, _≤_, _<_}
 use native.Mathlib.Nat.{zero-add, add-zero}
 use native.Mathlib.Omega.{arith}
-use lib.Dec.{leb, eqb}
 use lib.ListN.{length, getD, length-append}
-use borrow.Author.Tests.{leb-true}
 use Rattle.units.specs.Sizes.{nAllowed, pageAllowed, bucketAllowed}
 use Rattle.units.specs.Refusals.{first}
 use Rattle.units.specs.declared.Verdict.{Verdict}
@@ -19,12 +17,12 @@ use Rattle.signature.specs.declared.Signature.{Signature}
 use Rattle.signature.proofs.Handing.{answered-within}
 use Rattle.map.specs.Numbers.{lowBytes, endToEnd}
 use Rattle.map.specs.Files.{pages, tagged, header, components, entry, entries, file, entryBytes, place}
-use Rattle.map.specs.Reading.{fieldAt, isDue, headerOf, nKept, pageKept, bucketKept, headerTests, entryTests, told, reading, entryAt}
+use Rattle.map.specs.Reading.{fieldAt, isDue, headerOf, entryTests, told, reading, entryAt}
 use Rattle.map.specs.declared.Header.{Header}
 use Rattle.map.specs.declared.Entry.{Entry}
 use Rattle.map.specs.declared.Reading.the-variants.{Holds}
 use Rattle.map.proofs.Numbers.{low-first-after, low-bytes-length, written-read}
-use Rattle.map.proofs.Fields.{Due, due-is}
+use Rattle.map.proofs.Fields.{due-is}
 use Rattle.map.proofs.Entries.{entry-kept, end-kept, due-entry}
 use Rattle.map.proofs.Headers.{Kept, kept-header, entries-decide}
 use Rattle.map.proofs.Runs.{run-at, run-length}

@@ -3,7 +3,7 @@
 use mathlib.Core.Path.{_≡_, ap, _∙_}
 use mathlib.Core.Bool.{true, false}
 use mathlib.Core.List.{List}
-use Prim.Native.Nat.{ℕ, zero, suc, _+_, _*_, _≤_, _<_, _^_, _-_, min}
+use Prim.Native.Nat.{ℕ, zero, suc, _+_, _*_, _≤_, _<_, _-_}
 use native.Mathlib.Nat.{add-zero, zero-mul, suc-mul, not-suc-le-zero}
 use native.Mathlib.Omega.{arith}
 use lib.ListN.{length}

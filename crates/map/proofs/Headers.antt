@@ -15,7 +15,6 @@ use Rattle.units.proofs.Refusing.{Quiet, allowed-not-refused, allowed-when, fir
 use Rattle.map.specs.Files.{pages, entryBytes}
 use Rattle.map.specs.Reading.{fieldAt, isDue, headerOf, headerTests, entryTests, mapTests, told, reading, nKept, pageKept, bucketKept}
 use Rattle.map.specs.declared.Header.{Header}
-use Rattle.map.specs.declared.Reading.{Reading}
 use Rattle.map.specs.declared.Reading.the-variants.{Holds, Breaks}
 use Rattle.map.proofs.Fields.{halves}
 

@@ -4,17 +4,16 @@ use mathlib.Core.Path.{_≡_, refl, sym, ap, ap₂, _∙_}
 use mathlib.Core.Logic.{_↔_}
 use mathlib.Core.Bool.{Bool, true, false, _&&_}
 use mathlib.Core.List.{List, [], _∷_}
-use Prim.Native.Nat.{ℕ, zero, suc, _+_, _-_, _*_, _≤_, _<_}
+use Prim.Native.Nat.{ℕ, zero, suc, _+_, _-_, _≤_, _<_}
 use native.Mathlib.Nat.{add-zero, zero-mul, div-eq-of-lt}
 use native.Mathlib.Omega.{arith}
 use denote.Ref.{now}
 use lib.ListN.{length, take, drop}
 use borrow.Author.Tests.{le-ltb}
 use Rattle.units.specs.Counts.{pagesIn}
-use Rattle.units.specs.Sizes.{nAllowed, pageAllowed, bucketAllowed}
-use Rattle.units.specs.Refusals.{Test, first}
-use Rattle.units.specs.Filling.{outcome}
-use Rattle.units.specs.Filling.{told as Filling·told}
+use Rattle.units.specs.Sizes.{pageAllowed, bucketAllowed}
+use Rattle.units.specs.Refusals.{first}
+use Rattle.units.specs.Filling.{outcome, told as Filling·told}
 use Rattle.units.specs.declared.Filled.{Filled}
 use Rattle.units.specs.declared.Filled.the-variants.{Written}
 use Rattle.units.specs.declared.Refusal.{Refusal}

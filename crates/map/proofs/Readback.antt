@@ -1,24 +1,23 @@
 -- A file that reads is the file made from what was read: one file for one meaning.
 -- Assumes nothing.
-use mathlib.Core.Path.{_≡_, refl, sym, ap, ap₂, _∙_}
+use mathlib.Core.Path.{_≡_, sym, ap, ap₂, _∙_}
 use mathlib.Core.Bool.{true}
 use mathlib.Core.List.{List, _++_}
-use Prim.Native.Nat.{ℕ, suc, _+_, _-_, _*_, _≤_, _<_}
+use Prim.Native.Nat.{ℕ, _+_, _-_, _*_, _≤_, _<_}
 use native.Mathlib.Nat.{zero-add}
 use native.Mathlib.Omega.{arith}
-use lib.Dec.{leb}
-use lib.ListN.{length, getD, take, drop, take-append-drop, length-drop}
+use lib.ListN.{length, take, drop, take-append-drop, length-drop}
 use lib.Seq.{take-add, take-all, drop-drop}
-use borrow.Author.Tests.{le-leb, not-false}
+use borrow.Author.Tests.{le-leb}
 use Rattle.units.specs.Refusals.{first}
 use Rattle.units.specs.declared.Verdict.the-variants.{Allowed}
 use Rattle.units.proofs.Refusing.{Quiet, allowed-when}
 use Rattle.signature.specs.Objects.{Octets, lowFirst}
-use Rattle.signature.specs.Signatures.{handed, upTo, answered}
+use Rattle.signature.specs.Signatures.{handed, answered}
 use Rattle.signature.proofs.Handing.{handed-answered}
-use Rattle.map.specs.Numbers.{lowBytes, endToEnd}
-use Rattle.map.specs.Files.{pages, tagged, header, components, entry, entries, file, entryBytes, place}
-use Rattle.map.specs.Reading.{fieldAt, isDue, headerOf, mapTests, entryTests, told, reading, entryAt}
+use Rattle.map.specs.Numbers.{lowBytes}
+use Rattle.map.specs.Files.{pages, tagged, header, components, entry, file, entryBytes, place}
+use Rattle.map.specs.Reading.{fieldAt, isDue, headerOf, mapTests, reading, entryAt}
 use Rattle.map.specs.declared.Header.{Header}
 use Rattle.map.specs.declared.Reading.the-variants.{Holds}
 use Rattle.map.proofs.Numbers.{read-written}

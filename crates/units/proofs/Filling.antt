@@ -11,7 +11,7 @@ use lib.Dec.{T}
 use lib.ListN.{length, take, drop}
 use Rattle.units.specs.Refusals.{Test, first}
 use Rattle.units.specs.Writing.{written}
-use Rattle.units.specs.Filling.{Outcome, outcome, filling, told}
+use Rattle.units.specs.Filling.{outcome, filling, told}
 use Rattle.units.specs.declared.Refusal.{Refusal}
 use Rattle.units.specs.declared.Verdict.{Verdict}
 use Rattle.units.specs.declared.Verdict.the-variants.{Allowed, Refused}

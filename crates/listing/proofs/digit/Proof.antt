@@ -1,9 +1,9 @@
-use borrow.Author.Tests.{lt-ltb, le-ltb}
+-- `listing::digit` meets its contract: each return is the definition at the test that led there.
+-- Assumes nothing.
 use borrow.Author.Needs.{needs}
+use borrow.Author.Tests.{lt-ltb, le-ltb}
 use Rattle.listing.proofs.digit.Statement.{statement}
 use Rattle.listing.proofs.digit.Tie as tie
-use Rattle.listing.proofs.digit.Reads as reads
-use Rattle.listing.proofs.digit.Lts as lts
 
 add-result : tie.Need-add-result
 add-result c = search needs

@@ -1,18 +1,15 @@
-use Rattle.listing.proofs.Lengths.{header-line-length}
-use Rattle.listing.proofs.Digits.{width-most}
-use Rattle.listing.specs.Digits.{width}
-use Rattle.map.specs.declared.Header.{Header}
-use Rattle.map.specs.Files.{pages}
-use Prim.Native.Nat.{ℕ, _+_, _≤_}
-use mathlib.Core.Path.{_≡_, sym, ap, _∙_}
+-- `listing::header_line_bytes` meets its contract: no sum wraps, since no number has more than twenty digits.
+-- Assumes nothing.
+use mathlib.Core.Path.{ap}
 use native.Mathlib.Omega.{arith}
 use borrow.Author.Needs.{needs}
+use Rattle.map.specs.Files.{pages}
+use Rattle.map.specs.declared.Header.{Header}
+use Rattle.listing.specs.Digits.{width}
+use Rattle.listing.proofs.Lengths.{header-line-length}
+use Rattle.listing.proofs.Digits.{width-most}
 use Rattle.listing.proofs.header_line_bytes.Statement.{statement}
 use Rattle.listing.proofs.header_line_bytes.Tie as tie
-use Rattle.listing.proofs.header_line_bytes.Reads as reads
-use Rattle.listing.proofs.header_line_bytes.Lts as lts
-use Rattle.listing.proofs.width.Reads as width-reads
-use Rattle.map.proofs.pages.Reads as pages-reads
 
 width-requires : tie.Need-width-requires
 width-requires c κs = search needs
@@ -59,8 +56,12 @@ add-result-4 c =
 
 returns : tie.Need-returns
 returns c =
-    let h : Header = c .before .before .before .before .before .args .h in
-    omega (arith, header-line-length h, c .before .before .before .before .width .ensures, c .before .before .before .width2 .ensures, c .before .before .width3 .ensures, c .width4 .ensures, ap width (c .before .pages .ensures))
+    let args : _ = c .before .before .before .before .before .args in
+    let width-here : _ = c .before .before .before .before .width in
+    let width2 : _ = c .before .before .before .width2 in
+    let width3 : _ = c .before .before .width3 in
+    let h : Header = args .h in
+    omega (arith, header-line-length h, width-here .ensures, width2 .ensures, width3 .ensures, c .width4 .ensures, ap width (c .before .pages .ensures))
 
 pub header-line-bytes-spec : {M : Type 1} → statement M
 header-line-bytes-spec =

@@ -1,24 +1,20 @@
-use Rattle.listing.specs.Lines.{listed, listing, textOut}
+-- `listing::list` meets its contract: what was read says which listing it is.
+-- Assumes nothing.
+use mathlib.Core.Path.{_≡_, sym, ap, _∙_}
+use mathlib.Core.List.{List}
+use Prim.Native.Nat.{ℕ}
+use native.Mathlib.Nat.{le-of-eq}
+use borrow.Author.Needs.{needs}
+use Rattle.map.specs.Files.{pages}
+use Rattle.map.specs.Reading.{reading}
+use Rattle.map.specs.declared.Reading.the-variants.{Holds}
+use Rattle.map.specs.declared.Reading.{Reading}
 use Rattle.map.proofs.Holding.{holds-sized, holds-length}
 use Rattle.map.proofs.Contents.{Sized}
 use Rattle.map.proofs.Making.{n-most, pages-most}
-use Rattle.map.specs.Files.{pages}
-use Rattle.map.specs.declared.Reading.the-variants.{Holds}
-use Rattle.map.specs.declared.Reading.{Reading}
-use Rattle.map.specs.Reading.{reading}
-use native.Mathlib.Nat.{le-of-eq}
-use native.Mathlib.Omega.{arith}
-use Prim.Native.Nat.{ℕ}
-use mathlib.Core.List.{List}
-use mathlib.Core.Path.{_≡_, sym, ap, _∙_}
-use borrow.Author.Needs.{needs}
+use Rattle.listing.specs.Lines.{listed, listing, textOut}
 use Rattle.listing.proofs.list.Statement.{statement}
 use Rattle.listing.proofs.list.Tie as tie
-use Rattle.listing.proofs.list.Reads as reads
-use Rattle.listing.proofs.list.Lts as lts
-use Rattle.listing.proofs.list_held.Reads as list-held-reads
-use Rattle.listing.proofs.list_refused.Reads as list-refused-reads
-use Rattle.map.proofs.read.Reads as read-reads
 
 read-requires : tie.Need-read-requires
 read-requires c κs = search needs
@@ -46,8 +42,12 @@ same-length c = search needs
 returns : tie.Need-returns
 unfolding listing
 returns c =
-    let bytes : List ℕ = c .before .before .before .before .before .before .before .before .before .before .args .map .now in
-    c .before .before .list-refused .ensures ∙ ap (λ (r : Reading). textOut (listed bytes r) (c .before .before .before .before .before .before .before .before .before .before .args .output .now)) (sym (c .before .before .before .before .before .reading .given .1) ∙ c .before .before .before .before .before .before .before .read .ensures)
+    let args : _ = c .before .before .before .before .before .before .before .before .before .before .args in
+    let read : _ = c .before .before .before .before .before .before .before .read in
+    let reading-here : _ = c .before .before .before .before .before .reading in
+    let list-refused : _ = c .before .before .list-refused in
+    let bytes : List ℕ = args .map .now in
+    list-refused .ensures ∙ ap (λ (r : Reading). textOut (listed bytes r) (args .output .now)) (sym (reading-here .given .1) ∙ read .ensures)
 
 same-length-2 : tie.Need-same-length-2
 same-length-2 c = search needs
@@ -55,8 +55,12 @@ same-length-2 c = search needs
 returns-2 : tie.Need-returns-2
 unfolding listing
 returns-2 c =
-    let bytes : List ℕ = c .before .before .before .before .before .before .before .before .before .before .args .map .now in
-    c .before .before .list-held .ensures ∙ ap (λ (r : Reading). textOut (listed bytes r) (c .before .before .before .before .before .before .before .before .before .before .args .output .now)) (sym (c .before .before .before .before .before .reading2 .given .1) ∙ c .before .before .before .before .before .before .before .read .ensures)
+    let args : _ = c .before .before .before .before .before .before .before .before .before .before .args in
+    let read : _ = c .before .before .before .before .before .before .before .read in
+    let reading2 : _ = c .before .before .before .before .before .reading2 in
+    let list-held : _ = c .before .before .list-held in
+    let bytes : List ℕ = args .map .now in
+    list-held .ensures ∙ ap (λ (r : Reading). textOut (listed bytes r) (args .output .now)) (sym (reading2 .given .1) ∙ read .ensures)
 
 pub list-spec : {M : Type 1} → statement M
 list-spec =

@@ -1,30 +1,24 @@
-use Rattle.listing.proofs.Texts.{text-refused, text-written}
-use Rattle.listing.proofs.Pages.{lines-bytes, lines-most, header-most}
-use Rattle.listing.specs.Lines.{headerLine, lineOf}
-use Rattle.map.specs.declared.Header.{Header}
-use Rattle.map.specs.Files.{pages}
-use Rattle.map.specs.Numbers.{endToEnd}
-use Rattle.units.proofs.Writing.{put-next, written-append}
-use Rattle.units.specs.declared.Filled.the-variants.{Written, Refused}
-use Rattle.units.specs.declared.Filled.{Filled}
+-- `listing::list_held` meets its contract: the header line and the pages' lines are the listing.
+-- Assumes nothing.
+use mathlib.Core.Path.{_≡_, sym, ap, ap₂, _∙_}
+use mathlib.Core.List.{List, _++_}
+use Prim.Native.Nat.{ℕ, _+_, _≤_}
+use native.Mathlib.Omega.{arith}
+use lib.ListN.{length, length-append}
+use borrow.Author.Needs.{needs}
 use Rattle.units.specs.Filling.{outcomeOf}
 use Rattle.units.specs.Writing.{written, Put}
-use lib.ListN.{length, length-append}
-use native.Mathlib.Omega.{arith}
-use native.Mathlib.Nat.{zero-add}
-use Prim.Native.Nat.{ℕ, _+_, _≤_, _<_}
-use mathlib.Core.List.{List, _++_}
-use mathlib.Core.Path.{_≡_, sym, ap, ap₂, _∙_}
-use borrow.Author.Needs.{needs}
+use Rattle.units.specs.declared.Filled.the-variants.{Written, Refused}
+use Rattle.units.specs.declared.Filled.{Filled}
+use Rattle.units.proofs.Writing.{put-next, written-append}
+use Rattle.map.specs.Files.{pages}
+use Rattle.map.specs.Numbers.{endToEnd}
+use Rattle.map.specs.declared.Header.{Header}
+use Rattle.listing.specs.Lines.{headerLine, lineOf}
+use Rattle.listing.proofs.Texts.{text-refused, text-written}
+use Rattle.listing.proofs.Pages.{lines-bytes, lines-most, header-most}
 use Rattle.listing.proofs.list_held.Statement.{statement}
 use Rattle.listing.proofs.list_held.Tie as tie
-use Rattle.listing.proofs.list_held.Reads as reads
-use Rattle.listing.proofs.list_held.Lts as lts
-use Rattle.listing.proofs.header_line_bytes.Reads as header-line-bytes-reads
-use Rattle.listing.proofs.page_lines_bytes.Reads as page-lines-bytes-reads
-use Rattle.listing.proofs.put_header_line.Reads as put-header-line-reads
-use Rattle.listing.proofs.put_page_lines.Reads as put-page-lines-reads
-use Rattle.units.proofs.refused.Reads as refused-reads
 
 header-line-bytes-requires : tie.Need-header-line-bytes-requires
 header-line-bytes-requires c κs = search needs
@@ -34,19 +28,23 @@ page-lines-bytes-requires c κs = search needs
 
 add-needed : tie.Need-add-needed
 add-needed c =
-    let h : Header = c .before .before .before .before .args .h in
-    omega (arith, c .before .header-line-bytes .ensures, header-most h, c .page-lines-bytes .ensures, lines-most (h .n) (c .before .before .before .before .pre .0) (pages h) 0, c .before .before .before .before .pre .1)
+    let args : _ = c .before .before .before .before .args in
+    let required : _ = c .before .before .before .before .pre in
+    let h : Header = args .h in
+    omega (arith, c .before .header-line-bytes .ensures, header-most h, c .page-lines-bytes .ensures, lines-most (h .n) (required .0) (pages h) 0, required .1)
 
 refused-requires : tie.Need-refused-requires
 refused-requires c κs = search needs
 
 returns : tie.Need-returns
 returns c =
+    let header-line-bytes : _ = c .before .before .before .header-line-bytes in
+    let page-lines-bytes : _ = c .before .before .page-lines-bytes in
     let args : _ = c .before .before .before .before .before .before .args in
     let head : List ℕ = headerLine (args .h) in
     let lines : List ℕ = endToEnd (lineOf (args .h .n) (args .map .now)) 0 (pages (args .h)) in
-    let size : c .before .before .before .header-line-bytes .result + c .before .before .page-lines-bytes .result ≡ length (head ++ lines) =
-    omega (arith, length-append head lines, c .before .before .before .header-line-bytes .ensures, c .before .before .page-lines-bytes .ensures, lines-bytes (args .h .n) (args .map .now) (pages (args .h))) in
+    let size : header-line-bytes .result + page-lines-bytes .result ≡ length (head ++ lines) =
+    omega (arith, length-append head lines, header-line-bytes .ensures, page-lines-bytes .ensures, lines-bytes (args .h .n) (args .map .now) (pages (args .h))) in
     ap (λ (a : Filled). outcomeOf a (args .output .now)) (c .refused .ensures ∙ ap (λ (k : ℕ). Refused (record { number = 7; value = k })) size)
     ∙ sym (text-refused (head ++ lines) (args .output .now) (omega arith))
 
@@ -74,16 +72,21 @@ same-length c = search needs
 
 returns-2 : tie.Need-returns-2
 returns-2 c =
+    let header-line-bytes : _ = c .before .before .before .before .before .before .before .before .before .before .header-line-bytes in
+    let page-lines-bytes : _ = c .before .before .before .before .before .before .before .before .before .page-lines-bytes in
+    let if1 : _ = c .before .before .before .before .before .before .before .before .if1 in
+    let put-header-line : _ = c .before .before .before .before .before .before .put-header-line in
+    let put-page-lines : _ = c .before .before .put-page-lines in
     let args : _ = c .before .before .before .before .before .before .before .before .before .before .before .before .before .args in
     let head : List ℕ = headerLine (args .h) in
     let lines : List ℕ = endToEnd (lineOf (args .h .n) (args .map .now)) 0 (pages (args .h)) in
     let split : length (head ++ lines) ≡ length head + length lines = length-append head lines in
-    let size : c .before .before .before .before .before .before .before .before .before .before .header-line-bytes .result + c .before .before .before .before .before .before .before .before .before .page-lines-bytes .result ≡ length (head ++ lines) =
-    omega (arith, c .before .before .before .before .before .before .before .before .before .before .header-line-bytes .ensures, c .before .before .before .before .before .before .before .before .before .page-lines-bytes .ensures, lines-bytes (args .h .n) (args .map .now) (pages (args .h))) in
-    let enough : length (head ++ lines) ≤ length (args .output .now) = omega (arith, c .before .before .before .before .before .before .before .before .if1 .left) in
+    let size : header-line-bytes .result + page-lines-bytes .result ≡ length (head ++ lines) =
+    omega (arith, header-line-bytes .ensures, page-lines-bytes .ensures, lines-bytes (args .h .n) (args .map .now) (pages (args .h))) in
+    let enough : length (head ++ lines) ≤ length (args .output .now) = omega (arith, if1 .left) in
     let fits : 0 + (length head + length lines) ≤ length (args .output .now) = omega arith in
-    let both : c .before .before .put-page-lines .last .1 .1 .0 ≡ written (args .output .now) 0 (head ++ lines) =
-    c .before .before .put-page-lines .ensures ∙ ap (λ (p : Put). written (p .buffer) (p .next) lines) (c .before .before .before .before .before .before .put-header-line .ensures) ∙ written-append (args .output .now) 0 head lines fits in
+    let both : put-page-lines .last .1 .1 .0 ≡ written (args .output .now) 0 (head ++ lines) =
+    put-page-lines .ensures ∙ ap (λ (p : Put). written (p .buffer) (p .next) lines) (put-header-line .ensures) ∙ written-append (args .output .now) 0 head lines fits in
     ap₂ (λ (k : ℕ) (l : List ℕ). outcomeOf (Written (record { count = k })) l) size both
     ∙ sym (text-written (head ++ lines) (args .output .now) enough)
 

@@ -1,26 +1,22 @@
+-- `listing::list_refused` meets its contract: the word, the place and the line's end are the listing.
+-- Assumes nothing.
+use mathlib.Core.Path.{_≡_, sym, ap, ap₂, _∙_}
+use mathlib.Core.List.{List}
+use Prim.Native.Nat.{ℕ, _+_, _≤_}
+use native.Mathlib.Omega.{arith}
+use lib.ListN.{length, length-append}
+use borrow.Author.Needs.{needs}
+use Rattle.units.specs.Filling.{outcomeOf}
+use Rattle.units.specs.Writing.{Put, putOf, put}
+use Rattle.units.specs.declared.Filled.the-variants.{Written, Refused}
+use Rattle.units.specs.declared.Filled.{Filled}
+use Rattle.units.proofs.Writing.{put-next, put-then}
+use Rattle.listing.specs.Lines.{refusedWord, lineEnd, named, refusedLine}
 use Rattle.listing.proofs.Texts.{text-refused, text-written}
 use Rattle.listing.proofs.Lengths.{named-length, refused-line-length}
 use Rattle.listing.proofs.Digits.{width-most}
-use Rattle.listing.specs.Lines.{refusedWord, lineEnd, named, refusedLine}
-use Rattle.units.proofs.Writing.{put-next, put-then}
-use Rattle.units.specs.declared.Filled.the-variants.{Written, Refused}
-use Rattle.units.specs.declared.Filled.{Filled}
-use Rattle.units.specs.Filling.{outcomeOf}
-use Rattle.units.specs.Writing.{written, Put, putOf, put}
-use lib.ListN.{length, length-append}
-use native.Mathlib.Omega.{arith}
-use Prim.Native.Nat.{ℕ, _+_, _≤_, _<_}
-use mathlib.Core.List.{List}
-use mathlib.Core.Path.{_≡_, sym, ap, ap₂, _∙_}
-use borrow.Author.Needs.{needs}
 use Rattle.listing.proofs.list_refused.Statement.{statement}
 use Rattle.listing.proofs.list_refused.Tie as tie
-use Rattle.listing.proofs.list_refused.Reads as reads
-use Rattle.listing.proofs.list_refused.Lts as lts
-use Rattle.listing.proofs.put_named.Reads as put-named-reads
-use Rattle.listing.proofs.put_text.Reads as put-text-reads
-use Rattle.listing.proofs.width.Reads as width-reads
-use Rattle.units.proofs.refused.Reads as refused-reads
 
 width-requires : tie.Need-width-requires
 width-requires c κs = search needs
@@ -48,7 +44,12 @@ slice-aggregate-put-text : tie.Need-slice-aggregate-put-text
 slice-aggregate-put-text c = search needs
 
 put-text-requires : tie.Need-put-text-requires
-put-text-requires c κs = omega (arith, c .before .before .before .before .before .before .before .before .width .ensures, named-length refusedWord (c .before .before .before .before .before .before .before .before .before .before .args .at), put-next _ _ _ _ _ (c .before .before .before .before .put-named .ensures), c .before .before .before .before .put-named .kept .1 .1 .0, c .before .before .before .before .before .before .before .if1 .left)
+put-text-requires c κs =
+    let args : _ = c .before .before .before .before .before .before .before .before .before .before .args in
+    let width : _ = c .before .before .before .before .before .before .before .before .width in
+    let if1 : _ = c .before .before .before .before .before .before .before .if1 in
+    let put-named : _ = c .before .before .before .before .put-named in
+    omega (arith, width .ensures, named-length refusedWord (args .at), put-next _ _ _ _ _ (put-named .ensures), put-named .kept .1 .1 .0, if1 .left)
 
 same-length : tie.Need-same-length
 same-length c = search needs
@@ -56,13 +57,17 @@ same-length c = search needs
 returns-2 : tie.Need-returns-2
 unfolding refusedLine
 returns-2 c =
+    let width : _ = c .before .before .before .before .before .before .before .before .before .before .before .width in
+    let if1 : _ = c .before .before .before .before .before .before .before .before .before .before .if1 in
+    let put-named : _ = c .before .before .before .before .before .before .before .put-named in
+    let put-text : _ = c .before .before .put-text in
     let args : _ = c .before .before .before .before .before .before .before .before .before .before .before .before .before .args in
     let text : List ℕ = named refusedWord (args .at) in
-    let size : 16 + c .before .before .before .before .before .before .before .before .before .before .before .width .result ≡ length (refusedLine (args .at)) = omega (arith, c .before .before .before .before .before .before .before .before .before .before .before .width .ensures, refused-line-length (args .at)) in
-    let enough : length (refusedLine (args .at)) ≤ length (args .output .now) = omega (arith, c .before .before .before .before .before .before .before .before .before .before .if1 .left) in
+    let size : 16 + width .result ≡ length (refusedLine (args .at)) = omega (arith, width .ensures, refused-line-length (args .at)) in
+    let enough : length (refusedLine (args .at)) ≤ length (args .output .now) = omega (arith, if1 .left) in
     let long : length (refusedLine (args .at)) ≡ length text + 1 = length-append text lineEnd in
-    let both : putOf (c .before .before .put-text .last .1 .0) (c .before .before .put-text .result) ≡ put (args .output .now) 0 (refusedLine (args .at)) =
-    put-then (args .output .now) _ _ 0 _ _ text lineEnd (omega arith) (c .before .before .before .before .before .before .before .put-named .ensures) (c .before .before .put-text .ensures) in
+    let both : putOf (put-text .last .1 .0) (put-text .result) ≡ put (args .output .now) 0 (refusedLine (args .at)) =
+    put-then (args .output .now) _ _ 0 _ _ text lineEnd (omega arith) (put-named .ensures) (put-text .ensures) in
     ap₂ (λ (k : ℕ) (l : List ℕ). outcomeOf (Written (record { count = k })) l) size (ap (λ (p : Put). p .buffer) both)
     ∙ sym (text-written (refusedLine (args .at)) (args .output .now) enough)
 

@@ -1,23 +1,21 @@
-use Rattle.listing.proofs.Lengths.{page-line-length}
-use Rattle.listing.proofs.Digits.{width-most}
-use Rattle.listing.specs.Lines.{pageLine}
-use Rattle.listing.specs.Digits.{width}
-use Rattle.map.proofs.Runs.{run-more, run-none}
+-- `listing::page_lines_bytes` meets its contract. The invariant: the bytes counted and those left are all bytes.
+-- Assumes nothing.
+use mathlib.Core.Path.{_≡_, sym, ap, _∙_}
+use mathlib.Core.List.{List}
+use Prim.Native.Nat.{ℕ, suc, _+_, _-_, _*_, _≤_}
+use native.Mathlib.Nat.{sub-zero}
+use native.Mathlib.Numerals.{add-one}
+use native.Mathlib.Omega.{arith}
+use lib.ListN.{length}
 use Rattle.map.specs.Files.{pages}
 use Rattle.map.specs.Numbers.{endToEnd}
-use lib.ListN.{length}
-use native.Mathlib.Omega.{arith}
-use native.Mathlib.Numerals.{add-one}
-use native.Mathlib.Nat.{sub-zero}
-use Prim.Native.Nat.{ℕ, suc, _+_, _-_, _*_, _≤_, _<_}
-use mathlib.Core.List.{List}
-use mathlib.Core.Path.{_≡_, sym, ap, ap₂, _∙_}
+use Rattle.map.proofs.Runs.{run-more, run-none}
+use Rattle.listing.specs.Lines.{pageLine}
+use Rattle.listing.specs.Digits.{width}
+use Rattle.listing.proofs.Lengths.{page-line-length}
+use Rattle.listing.proofs.Digits.{width-most}
 use Rattle.listing.proofs.page_lines_bytes.Statement.{statement}
 use Rattle.listing.proofs.page_lines_bytes.Tie as tie
-use Rattle.listing.proofs.page_lines_bytes.Reads as reads
-use Rattle.listing.proofs.page_lines_bytes.Lts as lts
-use Rattle.listing.proofs.width.Reads as width-reads
-use Rattle.map.proofs.pages.Reads as pages-reads
 
 abbrev Inv-loop : tie.InvT-loop
 Inv-loop n count total₀ k₀ total k =
@@ -48,7 +46,11 @@ add-total-2 : tie.Need-add-total-2 Inv-loop μ-loop
 add-total-2 c = omega (arith, c .before .before .before .before .pre .0, c .width .ensures, width-most 19 (c .before .before .loop .k))
 
 add-total-3 : tie.Need-add-total-3 Inv-loop μ-loop
-add-total-3 c = omega (arith, c .before .before .before .before .pre .0, c .before .before .before .before .pre .1, c .width .ensures, width-most 19 (c .before .before .loop .k), c .before .before .before .pages .ensures)
+add-total-3 c =
+    let required : _ = c .before .before .before .before .pre in
+    let pages-here : _ = c .before .before .before .pages in
+    let loop : _ = c .before .before .loop in
+    omega (arith, required .0, required .1, c .width .ensures, width-most 19 (loop .k), pages-here .ensures)
 
 add-k : tie.Need-add-k Inv-loop μ-loop
 add-k c = omega arith

@@ -1,26 +1,24 @@
+-- `listing::put_columns` meets its contract. The invariant: what is left to write gives what the whole gives.
+-- Assumes nothing.
+use mathlib.Core.Path.{_≡_, refl, sym, ap, ap₂, _∙_}
+use mathlib.Core.List.{List, _∷_}
+use Prim.Native.Nat.{ℕ, suc, _+_, _-_, _*_, _≤_}
+use native.Mathlib.Nat.{add-zero}
+use native.Mathlib.Numerals.{add-one}
+use native.Mathlib.Omega.{arith}
+use lib.ListN.{length, set, length-set}
+use borrow.Author.Needs.{needs}
+use Rattle.units.specs.Writing.{written, putOf, put}
+use Rattle.units.proofs.Writing.{written-none, written-cons}
+use Rattle.signature.specs.Signatures.{handed}
+use Rattle.map.specs.Numbers.{endToEnd}
+use Rattle.map.proofs.Runs.{run-step, run-none, run-length}
+use Rattle.listing.specs.Lines.{columns}
+use Rattle.listing.specs.Digits.{hex}
 use Rattle.listing.proofs.Lengths.{column-length, columns-length}
 use Rattle.listing.proofs.Digits.{hex-length}
-use Rattle.listing.specs.Lines.{columns}
-use Rattle.listing.specs.Digits.{digits, hex}
-use Rattle.map.proofs.Runs.{run-step, run-none, run-length}
-use Rattle.map.specs.Numbers.{endToEnd}
-use Rattle.signature.specs.Signatures.{handed}
-use Rattle.units.proofs.Writing.{written-none, written-cons}
-use Rattle.units.specs.Writing.{written, putOf, put}
-use borrow.Author.Needs.{needs}
-use lib.ListN.{length, set, length-set}
-use native.Mathlib.Omega.{arith}
-use native.Mathlib.Numerals.{add-one}
-use native.Mathlib.Nat.{add-zero}
-use Prim.Native.Nat.{ℕ, suc, _+_, _-_, _*_, _≤_}
-use mathlib.Core.List.{List, [], _∷_}
-use mathlib.Core.Path.{_≡_, refl, sym, ap, ap₂, _∙_}
 use Rattle.listing.proofs.put_columns.Statement.{statement}
 use Rattle.listing.proofs.put_columns.Tie as tie
-use Rattle.listing.proofs.put_columns.Reads as reads
-use Rattle.listing.proofs.put_columns.Lts as lts
-use Rattle.listing.proofs.put_digits.Reads as put-digits-reads
-use Rattle.map.proofs.component.Reads as component-reads
 
 abbrev Inv-loop : tie.InvT-loop
 Inv-loop s output₀ at left₀ j₀ to₀ output left j to =
@@ -53,7 +51,10 @@ add-to : tie.Need-add-to Inv-loop μ-loop
 add-to c = omega arith
 
 add-j : tie.Need-add-j Inv-loop μ-loop
-add-j c = omega (arith, columns-length (c .before .before .before .before .before .before .before .before .args .s .n) (handed (c .before .before .before .before .before .before .before .before .args .s)), c .before .before .before .before .before .before .before .before .pre)
+add-j c =
+    let args : _ = c .before .before .before .before .before .before .before .before .args in
+    let required : _ = c .before .before .before .before .before .before .before .before .pre in
+    omega (arith, columns-length (args .s .n) (handed (args .s)), required)
 
 sub-left : tie.Need-sub-left Inv-loop μ-loop
 sub-left c = omega arith

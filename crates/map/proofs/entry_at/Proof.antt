@@ -1,12 +1,9 @@
-use Rattle.map.specs.Reading.{entryAt}
-use mathlib.Core.Path.{_≡_}
+-- `map::entry_at` meets its contract: tag and components, each at its place.
+-- Assumes nothing.
 use borrow.Author.Needs.{needs}
+use Rattle.map.specs.Reading.{entryAt}
 use Rattle.map.proofs.entry_at.Statement.{statement}
 use Rattle.map.proofs.entry_at.Tie as tie
-use Rattle.map.proofs.entry_at.Reads as reads
-use Rattle.map.proofs.entry_at.Lts as lts
-use Rattle.map.proofs.component_at.Reads as component-at-reads
-use Rattle.map.proofs.place.Reads as place-reads
 
 place-requires : tie.Need-place-requires
 place-requires c κs = search needs
@@ -28,7 +25,11 @@ component-at-requires-4 c κs = search needs
 
 returns : tie.Need-returns
 unfolding entryAt
-returns c = simp (c .before .before .before .before .before .place .ensures) (cc (c .before .before .before .component-at .ensures, c .before .before .component-at2 .ensures, c .before .component-at3 .ensures, c .component-at4 .ensures))
+returns c =
+    let place : _ = c .before .before .before .before .before .place in
+    let component-at : _ = c .before .before .before .component-at in
+    let component-at2 : _ = c .before .before .component-at2 in
+    simp (place .ensures) (cc (component-at .ensures, component-at2 .ensures, c .before .component-at3 .ensures, c .component-at4 .ensures))
 
 pub entry-at-spec : {M : Type 1} → statement M
 entry-at-spec =

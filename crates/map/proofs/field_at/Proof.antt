@@ -1,19 +1,16 @@
-use Rattle.map.specs.declared.Field.the-variants.{Broken}
-use Rattle.map.specs.Reading.{Rule, rule, long, none, underRule, fieldAt}
-use Rattle.units.specs.Counts.{bytesIn}
-use borrow.Author.Tests.{le-leb, lt-leb}
-use lib.ListN.{length, getD}
-use native.Mathlib.Omega.{arith}
-use Prim.Native.Nat.{ℕ, zero, suc, _+_, _-_, _≤_, _<_}
-use mathlib.Core.List.{List}
+-- `map::field_at` meets its contract: by its tag, the field is what its rule says, or is refused.
+-- Assumes nothing.
 use mathlib.Core.Path.{_≡_, refl, sym, ap, _∙_}
+use mathlib.Core.List.{List}
+use Prim.Native.Nat.{ℕ, zero, suc, _+_, _-_, _≤_, _<_}
+use native.Mathlib.Omega.{arith}
+use lib.ListN.{length, getD}
 use borrow.Author.Needs.{needs}
+use borrow.Author.Tests.{le-leb, lt-leb}
+use Rattle.units.specs.Counts.{bytesIn}
+use Rattle.map.specs.Reading.{Rule, rule, long, none, underRule, fieldAt}
 use Rattle.map.proofs.field_at.Statement.{statement}
 use Rattle.map.proofs.field_at.Tie as tie
-use Rattle.map.proofs.field_at.Reads as reads
-use Rattle.map.proofs.field_at.Lts as lts
-use Rattle.map.proofs.under_rule.Reads as under-rule-reads
-use Rattle.units.proofs.bytes_of.Reads as bytes-of-reads
 
 -- where tag and length are there, the field is what its tag's rule says
 ruled : (n : ℕ) (bytes : List ℕ) (at : ℕ) → at + 3 ≤ length bytes → (r : Rule) → rule n (getD bytes at 0) ≡ r → fieldAt n bytes at ≡ underRule r bytes at
@@ -66,19 +63,33 @@ under-rule-requires-3 : tie.Need-under-rule-requires-3
 under-rule-requires-3 c κs = search needs
 
 returns-3 : tie.Need-returns-3
-returns-3 c = sym (ruled _ (c .before .before .before .before .before .args .map .now) _ (omega arith) none (ap (rule (c .before .before .before .before .before .args .n)) (c .match .keys1)))
+returns-3 c =
+    let args : _ = c .before .before .before .before .before .args in
+    sym (ruled _ (args .map .now) _ (omega arith) none (ap (rule (args .n)) (c .match .keys1)))
 
 returns-4 : tie.Need-returns-4
-returns-4 c = c .under-rule .ensures ∙ sym (ruled _ (c .before .before .before .before .before .before .args .map .now) _ (omega arith) (long 1) (ap (rule (c .before .before .before .before .before .before .args .n)) (c .before .match .keys2)))
+returns-4 c =
+    let args : _ = c .before .before .before .before .before .before .args in
+    c .under-rule .ensures ∙ sym (ruled _ (args .map .now) _ (omega arith) (long 1) (ap (rule (args .n)) (c .before .match .keys2)))
 
 returns-5 : tie.Need-returns-5
-returns-5 c = c .under-rule2 .ensures ∙ ap (λ (k : ℕ). underRule (long k) (c .before .before .before .before .before .before .before .args .map .now) (c .before .before .before .before .before .before .before .args .at)) (c .before .bytes-of .ensures) ∙ sym (ruled _ (c .before .before .before .before .before .before .before .args .map .now) _ (omega arith) (long (bytesIn 2 (c .before .before .before .before .before .before .before .args .n))) (ap (rule (c .before .before .before .before .before .before .before .args .n)) (c .before .before .match .keys3)))
+returns-5 c =
+    let args : _ = c .before .before .before .before .before .before .before .args in
+    let match : _ = c .before .before .match in
+    c .under-rule2 .ensures ∙ ap (λ (k : ℕ). underRule (long k) (args .map .now) (args .at)) (c .before .bytes-of .ensures)
+    ∙ sym (ruled _ (args .map .now) _ (omega arith) (long (bytesIn 2 (args .n))) (ap (rule (args .n)) (match .keys3)))
 
 returns-6 : tie.Need-returns-6
-returns-6 c = c .under-rule3 .ensures ∙ sym (ruled _ (c .before .before .before .before .before .before .before .args .map .now) _ (omega arith) (long 4) (sizes (c .before .before .before .before .before .before .before .args .n) (getD (c .before .before .before .before .before .before .before .args .map .now) (c .before .before .before .before .before .before .before .args .at) 0) (c .before .before .match .rest .0 .0 .1) (c .before .before .match .rest .0 .1) (c .before .if3 .taken)))
+returns-6 c =
+    let args : _ = c .before .before .before .before .before .before .before .args in
+    let match : _ = c .before .before .match in
+    c .under-rule3 .ensures
+    ∙ sym (ruled _ (args .map .now) _ (omega arith) (long 4) (sizes (args .n) (getD (args .map .now) (args .at) 0) (match .rest .0 .0 .1) (match .rest .0 .1) (c .before .if3 .taken)))
 
 returns-7 : tie.Need-returns-7
-returns-7 c = sym (ruled _ (c .before .before .before .before .before .before .args .map .now) _ (omega arith) none (beyond (c .before .before .before .before .before .before .args .n) (getD (c .before .before .before .before .before .before .args .map .now) (c .before .before .before .before .before .before .args .at) 0) (c .before .match .rest .1) (c .if3 .left)))
+returns-7 c =
+    let args : _ = c .before .before .before .before .before .before .args in
+    sym (ruled _ (args .map .now) _ (omega arith) none (beyond (args .n) (getD (args .map .now) (args .at) 0) (c .before .match .rest .1) (c .if3 .left)))
 
 pub field-at-spec : {M : Type 1} → statement M
 field-at-spec =

@@ -1,18 +1,14 @@
-use Rattle.map.proofs.Numbers.{four-bytes}
-use Rattle.signature.specs.Objects.{lowFirst}
-use Rattle.signature.proofs.Octets.{low-first-lt}
+-- `map::four_bytes` meets its contract: four bytes are two and two.
+-- Assumes nothing.
+use mathlib.Core.Path.{sym, ap₂, _∙_}
 use Prim.Native.Nat.{ℕ, _+_, _*_, _<_}
-use mathlib.Core.Path.{_≡_, sym, ap₂, _∙_}
-use Rattle.map.proofs.Numbers.{four-bytes}
-use Prim.Native.Nat.{_+_, _<_}
-use mathlib.Core.Path.{_≡_, sym}
 use native.Mathlib.Omega.{arith}
 use borrow.Author.Needs.{needs}
+use Rattle.signature.specs.Objects.{lowFirst}
+use Rattle.signature.proofs.Octets.{low-first-lt}
+use Rattle.map.proofs.Numbers.{four-bytes}
 use Rattle.map.proofs.four_bytes.Statement.{statement}
 use Rattle.map.proofs.four_bytes.Tie as tie
-use Rattle.map.proofs.four_bytes.Reads as reads
-use Rattle.map.proofs.four_bytes.Lts as lts
-use Rattle.map.proofs.two_bytes.Reads as two-bytes-reads
 
 two-bytes-requires : tie.Need-two-bytes-requires
 two-bytes-requires c κs = search needs
@@ -25,13 +21,17 @@ two-bytes-requires-2 c κs = search needs
 
 mul-result : tie.Need-mul-result
 mul-result c =
-    let small : lowFirst 2 (c .before .before .before .args .map .now) (c .before .before .before .args .at + 2) < 65536 = low-first-lt 2 _ _ (λ k. c .before .before .shared-slice-known .given k .fits) in
+    let args : _ = c .before .before .before .args in
+    let shared-slice-known : _ = c .before .before .shared-slice-known in
+    let small : lowFirst 2 (args .map .now) (args .at + 2) < 65536 = low-first-lt 2 _ _ (λ k. shared-slice-known .given k .fits) in
     omega (arith, c .two-bytes2 .ensures)
 
 add-result : tie.Need-add-result
 add-result c =
-    let small : lowFirst 2 (c .before .before .before .args .map .now) (c .before .before .before .args .at + 2) < 65536 = low-first-lt 2 _ _ (λ k. c .before .before .shared-slice-known .given k .fits) in
-    let low : lowFirst 2 (c .before .before .before .args .map .now) (c .before .before .before .args .at) < 65536 = low-first-lt 2 _ _ (λ k. c .before .before .shared-slice-known .given k .fits) in
+    let args : _ = c .before .before .before .args in
+    let shared-slice-known : _ = c .before .before .shared-slice-known in
+    let small : lowFirst 2 (args .map .now) (args .at + 2) < 65536 = low-first-lt 2 _ _ (λ k. shared-slice-known .given k .fits) in
+    let low : lowFirst 2 (args .map .now) (args .at) < 65536 = low-first-lt 2 _ _ (λ k. shared-slice-known .given k .fits) in
     omega (arith, c .before .two-bytes .ensures, c .two-bytes2 .ensures)
 
 returns : tie.Need-returns

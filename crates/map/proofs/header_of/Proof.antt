@@ -1,13 +1,11 @@
-use Rattle.map.proofs.Numbers.{one-byte}
-use Rattle.map.specs.Reading.{headerOf}
-use Rattle.signature.specs.Objects.{lowFirst}
+-- `map::header_of` meets its contract: the three values stand at their places.
+-- Assumes nothing.
 use native.Mathlib.Omega.{arith}
 use borrow.Author.Needs.{needs}
+use Rattle.map.specs.Reading.{headerOf}
+use Rattle.map.proofs.Numbers.{one-byte}
 use Rattle.map.proofs.header_of.Statement.{statement}
 use Rattle.map.proofs.header_of.Tie as tie
-use Rattle.map.proofs.header_of.Reads as reads
-use Rattle.map.proofs.header_of.Lts as lts
-use Rattle.map.proofs.four_bytes.Reads as four-bytes-reads
 
 shared-slice-read-t3 : tie.Need-shared-slice-read-t3
 shared-slice-read-t3 c = search needs

@@ -1,18 +1,14 @@
-use Rattle.map.specs.declared.Entry.{Entry}
-use Rattle.map.specs.Making.{madeEntry}
-use Rattle.signature.specs.declared.Signature.{Signature}
+-- `map::made_entry` meets its contract: tag 04, and the page's own signature.
+-- Assumes nothing.
+use mathlib.Core.Path.{ap, _∙_}
+use borrow.Author.Needs.{needs}
 use Rattle.signature.specs.Operations.{own}
 use Rattle.signature.specs.Kinds.{wide}
-use Prim.Native.Nat.{ℕ}
-use mathlib.Core.List.{List}
-use mathlib.Core.Path.{_≡_, ap, _∙_}
-use borrow.Author.Needs.{needs}
+use Rattle.signature.specs.declared.Signature.{Signature}
+use Rattle.map.specs.Making.{madeEntry}
+use Rattle.map.specs.declared.Entry.{Entry}
 use Rattle.map.proofs.made_entry.Statement.{statement}
 use Rattle.map.proofs.made_entry.Tie as tie
-use Rattle.map.proofs.made_entry.Reads as reads
-use Rattle.map.proofs.made_entry.Lts as lts
-use Rattle.map.proofs.page_at.Reads as page-at-reads
-use Rattle.signature.proofs.own.Reads as own-reads
 
 page-at-requires : tie.Need-page-at-requires
 page-at-requires c κs = search needs

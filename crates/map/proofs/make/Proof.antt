@@ -1,32 +1,24 @@
-use Rattle.map.proofs.Making.{n-most, page-some, place-most, file-written}
-use Rattle.units.specs.declared.Filled.the-variants.{Written, Refused}
-use Rattle.units.specs.declared.Filled.{Filled}
-use Rattle.map.specs.Making.{making, needed, made, madeEntry}
-use Rattle.map.specs.Files.{place, entries}
+-- `map::make` meets its contract: each return is the definition at the tests that led there; header and entries are the file.
+-- Assumes nothing.
+use mathlib.Core.Path.{_≡_, refl, sym, ap, ap₂, _∙_, subst}
+use mathlib.Core.Bool.{true, false}
+use mathlib.Core.List.{List}
+use Prim.Native.Nat.{ℕ, _≤_, _<_}
+use native.Mathlib.Omega.{arith}
+use lib.ListN.{length}
+use borrow.Author.Needs.{needs}
+use borrow.Author.Tests.{not-true, not-false, lt-ltb, le-ltb}
 use Rattle.units.specs.Filling.{outcomeOf}
 use Rattle.units.specs.Writing.{written}
 use Rattle.units.specs.Sizes.{nAllowed, pageAllowed, bucketAllowed}
 use Rattle.units.specs.Counts.{pagesIn}
-use borrow.Author.Tests.{not-true, not-false, lt-ltb, le-ltb}
-use lib.ListN.{length}
-use native.Mathlib.Omega.{arith}
-use Prim.Native.Nat.{ℕ, _≤_, _<_}
-use mathlib.Core.List.{List}
-use mathlib.Core.Bool.{true, false}
-use mathlib.Core.Path.{_≡_, refl, sym, ap, ap₂, _∙_, subst}
-use borrow.Author.Needs.{needs}
+use Rattle.units.specs.declared.Filled.the-variants.{Written, Refused}
+use Rattle.units.specs.declared.Filled.{Filled}
+use Rattle.map.specs.Making.{making, needed, made, madeEntry}
+use Rattle.map.specs.Files.{place, entries}
+use Rattle.map.proofs.Making.{n-most, page-some, place-most, file-written}
 use Rattle.map.proofs.make.Statement.{statement}
 use Rattle.map.proofs.make.Tie as tie
-use Rattle.map.proofs.make.Reads as reads
-use Rattle.map.proofs.make.Lts as lts
-use Rattle.map.proofs.place.Reads as place-reads
-use Rattle.map.proofs.put_entries.Reads as put-entries-reads
-use Rattle.map.proofs.put_header.Reads as put-header-reads
-use Rattle.units.proofs.refused.Reads as refused-reads
-use Rattle.units.proofs.bucket_allowed.Reads as bucket-allowed-reads
-use Rattle.units.proofs.n_allowed.Reads as n-allowed-reads
-use Rattle.units.proofs.page_allowed.Reads as page-allowed-reads
-use Rattle.units.proofs.pages_of.Reads as pages-of-reads
 
 -- no size test applies
 record Sized (n page : ℕ) (bucket : List ℕ) : Type 0 where
@@ -66,9 +58,13 @@ refused-requires-2 c κs = search needs
 returns-2 : tie.Need-returns-2
 unfolding making
 returns-2 c =
-    let size : nAllowed (c .before .before .before .before .before .before .before .args .n) ≡ true = sym (c .before .before .before .before .n-allowed .ensures) ∙ not-false _ (c .before .before .before .if1 .left) in
-    let page : pageAllowed (c .before .before .before .before .before .before .before .args .page .count) ≡ false = sym (c .before .before .page-allowed .ensures) ∙ not-true _ (c .before .if2 .taken) in
-    simp (size, page) (ap (λ (a : Filled). outcomeOf a (c .before .before .before .before .before .before .before .args .output .now)) (c .refused2 .ensures))
+    let args : _ = c .before .before .before .before .before .before .before .args in
+    let n-allowed : _ = c .before .before .before .before .n-allowed in
+    let if1 : _ = c .before .before .before .if1 in
+    let page-allowed : _ = c .before .before .page-allowed in
+    let size : nAllowed (args .n) ≡ true = sym (n-allowed .ensures) ∙ not-false _ (if1 .left) in
+    let page : pageAllowed (args .page .count) ≡ false = sym (page-allowed .ensures) ∙ not-true _ (c .before .if2 .taken) in
+    simp (size, page) (ap (λ (a : Filled). outcomeOf a (args .output .now)) (c .refused2 .ensures))
 
 pages-of-requires : tie.Need-pages-of-requires
 pages-of-requires c κs = search needs
@@ -82,17 +78,26 @@ refused-requires-3 c κs = search needs
 returns-3 : tie.Need-returns-3
 unfolding making
 returns-3 c =
+    let n-allowed : _ = c .before .before .before .before .before .before .before .n-allowed in
+    let if1 : _ = c .before .before .before .before .before .before .if1 in
+    let page-allowed : _ = c .before .before .before .before .before .page-allowed in
+    let if2 : _ = c .before .before .before .before .if2 in
+    let pages-of : _ = c .before .before .before .pages-of in
+    let bucket-allowed : _ = c .before .before .bucket-allowed in
     let args : _ = c .before .before .before .before .before .before .before .before .before .before .args in
-    let size : nAllowed (args .n) ≡ true = sym (c .before .before .before .before .before .before .before .n-allowed .ensures) ∙ not-false _ (c .before .before .before .before .before .before .if1 .left) in
-    let page : pageAllowed (args .page .count) ≡ true = sym (c .before .before .before .before .before .page-allowed .ensures) ∙ not-false _ (c .before .before .before .before .if2 .left) in
-    let long : bucketAllowed (length (args .bucket .now)) (pagesIn (args .page .count) (length (args .bucket .now))) ≡ false = ap (bucketAllowed (length (args .bucket .now))) (sym (c .before .before .before .pages-of .ensures)) ∙ sym (c .before .before .bucket-allowed .ensures) ∙ not-true _ (c .before .if3 .taken) in
+    let size : nAllowed (args .n) ≡ true = sym (n-allowed .ensures) ∙ not-false _ (if1 .left) in
+    let page : pageAllowed (args .page .count) ≡ true = sym (page-allowed .ensures) ∙ not-false _ (if2 .left) in
+    let long : bucketAllowed (length (args .bucket .now)) (pagesIn (args .page .count) (length (args .bucket .now))) ≡ false =
+    ap (bucketAllowed (length (args .bucket .now))) (sym (pages-of .ensures)) ∙ sym (bucket-allowed .ensures) ∙ not-true _ (c .before .if3 .taken) in
     simp (size, page, long) (ap (λ (a : Filled). outcomeOf a (args .output .now)) (c .refused3 .ensures))
 
 place-requires : tie.Need-place-requires
 place-requires c κs =
+    let pages-of : _ = c .before .before .pages-of in
     let args : _ = c .before .before .before .before .before .before .before .before .before .args in
     let fits : Sized (args .n) (args .page .count) (args .bucket .now) = sized c in
-    subst (λ (k : ℕ). (args .n ≤ 4) × (place (args .n) k < 18446744073709551616)) (sym (c .before .before .pages-of .ensures)) (n-most (args .n) (fits .size), omega (arith, place-most (args .n) (length (args .bucket .now)) (pagesIn (args .page .count) (length (args .bucket .now))) (fits .size) (fits .long)))
+    subst (λ (k : ℕ). (args .n ≤ 4) × (place (args .n) k < 18446744073709551616)) (sym (pages-of .ensures))
+    (n-most (args .n) (fits .size), omega (arith, place-most (args .n) (length (args .bucket .now)) (pagesIn (args .page .count) (length (args .bucket .now))) (fits .size) (fits .long)))
 
 refused-requires-4 : tie.Need-refused-requires-4
 refused-requires-4 c κs = search needs
@@ -100,21 +105,28 @@ refused-requires-4 c κs = search needs
 returns-4 : tie.Need-returns-4
 unfolding making
 returns-4 c =
+    let pages-of : _ = c .before .before .before .before .before .pages-of in
+    let place-here : _ = c .before .before .place in
     let args : _ = c .before .before .before .before .before .before .before .before .before .before .before .before .args in
     let fits : Sized (args .n) (args .page .count) (args .bucket .now) = sized (c .before .before .before) in
-    let room : c .before .before .place .result ≡ needed (args .n) (args .page .count) (args .bucket .now) = c .before .before .place .ensures ∙ ap (place (args .n)) (c .before .before .before .before .before .pages-of .ensures) in
+    let room : place-here .result ≡ needed (args .n) (args .page .count) (args .bucket .now) = place-here .ensures ∙ ap (place (args .n)) (pages-of .ensures) in
     let short : length (args .output .now) < needed (args .n) (args .page .count) (args .bucket .now) = omega arith in
-    simp (fits .size, fits .paged, fits .long, lt-ltb _ _ short) (ap (λ (a : Filled). outcomeOf a (args .output .now)) (c .refused4 .ensures ∙ ap (λ (k : ℕ). Refused (record { number = 7; value = k })) room))
+    simp (fits .size, fits .paged, fits .long, lt-ltb _ _ short)
+    (ap (λ (a : Filled). outcomeOf a (args .output .now)) (c .refused4 .ensures ∙ ap (λ (k : ℕ). Refused (record { number = 7; value = k })) room))
 
 put-header-requires : tie.Need-put-header-requires
 put-header-requires c κs = search needs
 
 put-entries-requires : tie.Need-put-entries-requires
 put-entries-requires c κs =
+    let pages-of : _ = c .before .before .before .before .before .before .before .before .before .pages-of in
+    let place-here : _ = c .before .before .before .before .before .before .place in
+    let if4 : _ = c .before .before .before .before .before .if4 in
+    let put-header : _ = c .before .before .before .put-header in
     let args : _ = c .before .before .before .before .before .before .before .before .before .before .before .before .before .before .before .before .args in
     let fits : Sized (args .n) (args .page .count) (args .bucket .now) = sized (c .before .before .before .before .before .before .before) in
-    let room : c .before .before .before .before .before .before .place .result ≡ needed (args .n) (args .page .count) (args .bucket .now) = c .before .before .before .before .before .before .place .ensures ∙ ap (place (args .n)) (c .before .before .before .before .before .before .before .before .before .pages-of .ensures) in
-    (n-most (args .n) (fits .size), page-some (args .page .count) (fits .paged), refl, omega (arith, c .before .before .before .put-header .kept .1 .0, c .before .before .before .before .before .if4 .left))
+    let room : place-here .result ≡ needed (args .n) (args .page .count) (args .bucket .now) = place-here .ensures ∙ ap (place (args .n)) (pages-of .ensures) in
+    (n-most (args .n) (fits .size), page-some (args .page .count) (fits .paged), refl, omega (arith, put-header .kept .1 .0, if4 .left))
 
 same-length : tie.Need-same-length
 same-length c = search needs
@@ -122,11 +134,19 @@ same-length c = search needs
 returns-5 : tie.Need-returns-5
 unfolding making
 returns-5 c =
+    let pages-of : _ = c .before .before .before .before .before .before .before .before .before .before .before .before .pages-of in
+    let place-here : _ = c .before .before .before .before .before .before .before .before .before .place in
+    let if4 : _ = c .before .before .before .before .before .before .before .before .if4 in
+    let put-header : _ = c .before .before .before .before .before .before .put-header in
+    let put-entries : _ = c .before .before .put-entries in
     let args : _ = c .before .before .before .before .before .before .before .before .before .before .before .before .before .before .before .before .before .before .before .args in
     let fits : Sized (args .n) (args .page .count) (args .bucket .now) = sized (c .before .before .before .before .before .before .before .before .before .before) in
-    let room : c .before .before .before .before .before .before .before .before .before .place .result ≡ needed (args .n) (args .page .count) (args .bucket .now) = c .before .before .before .before .before .before .before .before .before .place .ensures ∙ ap (place (args .n)) (c .before .before .before .before .before .before .before .before .before .before .before .before .pages-of .ensures) in
-    let enough : needed (args .n) (args .page .count) (args .bucket .now) ≤ length (args .output .now) = omega (arith, c .before .before .before .before .before .before .before .before .if4 .left) in
-    let entries-put : c .before .before .put-entries .last .1 .1 .0 ≡ written (args .output .now) 0 (made (args .n) (args .page .count) (args .bucket .now)) = c .before .before .put-entries .ensures ∙ ap (λ (l : List ℕ). written l 18 (entries (madeEntry (args .n) (args .page .count) (args .bucket .now)) 0 (pagesIn (args .page .count) (length (args .bucket .now))))) (c .before .before .before .before .before .before .put-header .ensures) ∙ file-written (args .n) (args .page .count) (args .bucket .now) (args .output .now) enough in
+    let room : place-here .result ≡ needed (args .n) (args .page .count) (args .bucket .now) = place-here .ensures ∙ ap (place (args .n)) (pages-of .ensures) in
+    let enough : needed (args .n) (args .page .count) (args .bucket .now) ≤ length (args .output .now) = omega (arith, if4 .left) in
+    let entries-put : put-entries .last .1 .1 .0 ≡ written (args .output .now) 0 (made (args .n) (args .page .count) (args .bucket .now)) =
+    put-entries .ensures ∙ ap (λ (l : List ℕ). written l 18
+    (entries (madeEntry (args .n) (args .page .count) (args .bucket .now)) 0 (pagesIn (args .page .count) (length (args .bucket .now))))) (put-header .ensures)
+    ∙ file-written (args .n) (args .page .count) (args .bucket .now) (args .output .now) enough in
     simp (fits .size, fits .paged, fits .long, le-ltb _ _ enough) (ap₂ (λ (k : ℕ) (l : List ℕ). outcomeOf (Written (record { count = k })) l) room entries-put)
 
 pub make-spec : {M : Type 1} → statement M

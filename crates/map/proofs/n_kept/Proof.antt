@@ -1,20 +1,16 @@
+-- `map::n_kept` meets its contract: a field that is due has its value inside the map.
+-- Assumes nothing.
+use mathlib.Core.Path.{_≡_, refl, sym, ap, _∙_}
+use mathlib.Core.Bool.{true, false}
+use native.Mathlib.Omega.{arith}
+use borrow.Author.Needs.{needs}
+use borrow.Author.Tests.{not-true, not-false}
+use Rattle.units.specs.Sizes.{nAllowed}
+use Rattle.map.specs.Reading.{fieldAt, isDue, headerOf}
 use Rattle.map.proofs.Fields.{Due, is-due}
 use Rattle.map.proofs.Numbers.{one-byte}
-use Rattle.map.specs.Reading.{fieldAt, isDue, headerOf}
-use Rattle.units.specs.Sizes.{nAllowed}
-use borrow.Author.Tests.{not-true, not-false}
-use lib.ListN.{getD}
-use native.Mathlib.Omega.{arith}
-use Prim.Native.Nat.{ℕ}
-use mathlib.Core.Bool.{true, false}
-use mathlib.Core.Path.{_≡_, refl, sym, ap, _∙_}
-use borrow.Author.Needs.{needs}
 use Rattle.map.proofs.n_kept.Statement.{statement}
 use Rattle.map.proofs.n_kept.Tie as tie
-use Rattle.map.proofs.n_kept.Reads as reads
-use Rattle.map.proofs.n_kept.Lts as lts
-use Rattle.map.proofs.due.Reads as due-reads
-use Rattle.units.proofs.n_allowed.Reads as n-allowed-reads
 
 due-requires : tie.Need-due-requires
 due-requires c κs = search needs
@@ -39,7 +35,10 @@ n-allowed-requires c κs = search needs
 returns-2 : tie.Need-returns-2
 unfolding headerOf
 returns-2 c =
-    let yes : isDue 1 (fieldAt 0 (c .before .before .before .before .before .args .map .now) 0) ≡ true = sym (c .before .before .before .due .ensures) ∙ not-false _ (c .before .before .if1 .left) in
+    let args : _ = c .before .before .before .before .before .args in
+    let due : _ = c .before .before .before .due in
+    let if1 : _ = c .before .before .if1 in
+    let yes : isDue 1 (fieldAt 0 (args .map .now) 0) ≡ true = sym (due .ensures) ∙ not-false _ (if1 .left) in
     simp yes (c .n-allowed .ensures ∙ ap nAllowed (sym (one-byte _ 3)))
 
 pub n-kept-spec : {M : Type 1} → statement M

@@ -1,15 +1,15 @@
-use native.Mathlib.Omega.{arith}
-use Prim.Native.Nat.{ℕ, _+_, _-_, _*_, _≤_}
-use mathlib.Core.List.{List}
-use Rattle.map.specs.Buckets.{pageAt}
-use lib.Seq.{take-all}
-use lib.ListN.{length, take, drop, length-drop}
+-- `map::page_at` meets its contract: a page ends where the bucket does, or before.
+-- Assumes nothing.
 use mathlib.Core.Path.{_≡_, sym, ap, _∙_}
+use mathlib.Core.List.{List}
+use Prim.Native.Nat.{ℕ, _+_, _-_, _*_, _≤_}
+use native.Mathlib.Omega.{arith}
+use lib.ListN.{length, take, drop, length-drop}
+use lib.Seq.{take-all}
 use borrow.Author.Needs.{needs}
+use Rattle.map.specs.Buckets.{pageAt}
 use Rattle.map.proofs.page_at.Statement.{statement}
 use Rattle.map.proofs.page_at.Tie as tie
-use Rattle.map.proofs.page_at.Reads as reads
-use Rattle.map.proofs.page_at.Lts as lts
 
 mul-start : tie.Need-mul-start
 mul-start c = search needs

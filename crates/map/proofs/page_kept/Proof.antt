@@ -1,18 +1,15 @@
-use Rattle.map.proofs.Fields.{Due, is-due}
-use Rattle.map.specs.Reading.{fieldAt, isDue, headerOf}
-use Rattle.units.specs.Sizes.{pageAllowed}
-use borrow.Author.Tests.{not-true, not-false}
-use native.Mathlib.Omega.{arith}
-use mathlib.Core.Bool.{true, false}
+-- `map::page_kept` meets its contract: a field that is due has its value inside the map.
+-- Assumes nothing.
 use mathlib.Core.Path.{_≡_, refl, sym, ap, _∙_}
+use mathlib.Core.Bool.{true, false}
+use native.Mathlib.Omega.{arith}
 use borrow.Author.Needs.{needs}
+use borrow.Author.Tests.{not-true, not-false}
+use Rattle.units.specs.Sizes.{pageAllowed}
+use Rattle.map.specs.Reading.{fieldAt, isDue, headerOf}
+use Rattle.map.proofs.Fields.{Due, is-due}
 use Rattle.map.proofs.page_kept.Statement.{statement}
 use Rattle.map.proofs.page_kept.Tie as tie
-use Rattle.map.proofs.page_kept.Reads as reads
-use Rattle.map.proofs.page_kept.Lts as lts
-use Rattle.map.proofs.due.Reads as due-reads
-use Rattle.map.proofs.four_bytes.Reads as four-bytes-reads
-use Rattle.units.proofs.page_allowed.Reads as page-allowed-reads
 
 due-requires : tie.Need-due-requires
 due-requires c κs = search needs
@@ -34,7 +31,10 @@ page-allowed-requires c κs = search needs
 returns-2 : tie.Need-returns-2
 unfolding headerOf
 returns-2 c =
-    let yes : isDue 2 (fieldAt 0 (c .before .before .before .before .before .args .map .now) 4) ≡ true = sym (c .before .before .before .due .ensures) ∙ not-false _ (c .before .before .if1 .left) in
+    let args : _ = c .before .before .before .before .before .args in
+    let due : _ = c .before .before .before .due in
+    let if1 : _ = c .before .before .if1 in
+    let yes : isDue 2 (fieldAt 0 (args .map .now) 4) ≡ true = sym (due .ensures) ∙ not-false _ (if1 .left) in
     simp yes (c .page-allowed .ensures ∙ ap pageAllowed (c .before .four-bytes .ensures))
 
 pub page-kept-spec : {M : Type 1} → statement M

@@ -1,23 +1,21 @@
-use Rattle.map.proofs.Runs.{run-turn, run-none}
-use Rattle.map.proofs.Numbers.{low-bytes-length}
+-- `map::put_components` meets its contract. The invariant: what is left to write gives what the whole gives.
+-- Assumes nothing.
+use mathlib.Core.Path.{_≡_, refl, sym, ap, ap₂, _∙_}
+use mathlib.Core.List.{List}
+use Prim.Native.Nat.{ℕ, suc, _+_, _-_, _*_, _≤_}
+use native.Mathlib.Numerals.{add-one}
+use native.Mathlib.Omega.{arith}
+use lib.ListN.{length}
+use borrow.Author.Needs.{needs}
+use Rattle.units.specs.Writing.{written}
+use Rattle.units.proofs.Writing.{written-none}
+use Rattle.signature.specs.Signatures.{handed}
 use Rattle.map.specs.Files.{components}
 use Rattle.map.specs.Numbers.{lowBytes, endToEnd}
-use Rattle.signature.specs.Signatures.{handed}
-use Rattle.units.proofs.Writing.{written-none, written-length}
-use Rattle.units.specs.Writing.{written}
-use lib.ListN.{length}
-use native.Mathlib.Omega.{arith}
-use native.Mathlib.Numerals.{add-one}
-use Prim.Native.Nat.{ℕ, suc, _+_, _-_, _*_, _≤_}
-use mathlib.Core.List.{List, []}
-use mathlib.Core.Path.{_≡_, refl, sym, ap, ap₂, _∙_}
-use borrow.Author.Needs.{needs}
+use Rattle.map.proofs.Runs.{run-turn, run-none}
+use Rattle.map.proofs.Numbers.{low-bytes-length}
 use Rattle.map.proofs.put_components.Statement.{statement}
 use Rattle.map.proofs.put_components.Tie as tie
-use Rattle.map.proofs.put_components.Reads as reads
-use Rattle.map.proofs.put_components.Lts as lts
-use Rattle.map.proofs.component.Reads as component-reads
-use Rattle.map.proofs.put_two_bytes.Reads as put-two-bytes-reads
 
 abbrev Inv-loop : tie.InvT-loop
 Inv-loop s output₀ at left₀ j₀ to₀ output left j to =
@@ -54,16 +52,20 @@ loop-less c = omega arith
 
 loop-again : tie.Need-loop-again Inv-loop μ-loop
 loop-again c =
+    let component : _ = c .before .before .before .before .component in
+    let put-two-bytes : _ = c .before .before .put-two-bytes in
     let at : _ = c .before .before .before .before .before .before .loop in
     let args : _ = c .before .before .before .before .before .before .before .before .args in
     let f : ℕ → List ℕ = λ i. lowBytes 2 (handed (args .s) i) in
     let m : ℕ = at .left - 1 in
     let up : at .left ≡ suc m = omega arith in
-    let put : c .before .before .put-two-bytes .last .1 .0 ≡ written (at .output) (at .to) (f (at .j)) = c .before .before .put-two-bytes .ensures ∙ ap (λ (x : ℕ). written (at .output) (at .to) (lowBytes 2 x)) (c .before .before .before .before .component .ensures) in
+    let put : put-two-bytes .last .1 .0 ≡ written (at .output) (at .to) (f (at .j)) =
+    put-two-bytes .ensures ∙ ap (λ (x : ℕ). written (at .output) (at .to) (lowBytes 2 x)) (component .ensures) in
     let fits : at .to + suc m * 2 ≤ length (at .output) = omega arith in (
-      ap₂ (λ (l : List ℕ) (k : ℕ). written l (at .to + 2) (endToEnd f k m)) put (add-one (at .j)) ∙ run-turn f 2 (λ i. low-bytes-length 2 _) (at .output) (at .to) m (at .j) fits ∙ ap (λ (k : ℕ). written (at .output) (at .to) (endToEnd f (at .j) k)) (sym up) ∙ at .inv .0,
+      ap₂ (λ (l : List ℕ) (k : ℕ). written l (at .to + 2) (endToEnd f k m)) put (add-one (at .j)) ∙ run-turn f 2 (λ i. low-bytes-length 2 _) (at .output) (at .to) m (at .j) fits
+          ∙ ap (λ (k : ℕ). written (at .output) (at .to) (endToEnd f (at .j) k)) (sym up) ∙ at .inv .0,
       omega arith,
-      c .before .before .put-two-bytes .kept .1 .0 ∙ at .inv .2,
+      put-two-bytes .kept .1 .0 ∙ at .inv .2,
       omega arith,
     )
 
@@ -72,11 +74,13 @@ same-length c = omega arith
 
 returns : tie.Need-returns Inv-loop μ-loop
 returns c =
+    let args : _ = c .before .before .before .args in
     let at : _ = c .before .loop in
-    let f : ℕ → List ℕ = λ i. lowBytes 2 (handed (c .before .before .before .args .s) i) in
+    let f : ℕ → List ℕ = λ i. lowBytes 2 (handed (args .s) i) in
     let none : at .left ≡ 0 = omega arith in
     let inside : at .to ≤ length (at .output) = omega arith in
-    sym (written-none (at .output) (at .to) inside) ∙ ap (written (at .output) (at .to)) (sym (run-none f (at .j))) ∙ ap (λ (k : ℕ). written (at .output) (at .to) (endToEnd f (at .j) k)) (sym none) ∙ at .inv .0
+    sym (written-none (at .output) (at .to) inside) ∙ ap (written (at .output) (at .to)) (sym (run-none f (at .j)))
+    ∙ ap (λ (k : ℕ). written (at .output) (at .to) (endToEnd f (at .j) k)) (sym none) ∙ at .inv .0
 
 pub put-components-spec : {M : Type 1} → statement M
 put-components-spec =

@@ -1,28 +1,23 @@
-use native.Mathlib.Nat.{add-mul}
-use Rattle.map.proofs.Making.{made-n, made-length, next-place, entry-inside}
+-- `map::put_entries` meets its contract. The invariant: what is left to write gives what the whole gives.
+-- Assumes nothing.
 use mathlib.Core.Path.{_≡_, refl, sym, ap, ap₂, _∙_, subst}
-use Rattle.map.proofs.Runs.{run-turn, run-none}
-use Rattle.map.proofs.Tagging.{entry-length}
-use Rattle.map.specs.declared.Entry.{Entry}
+use mathlib.Core.List.{List}
+use Prim.Native.Nat.{ℕ, suc, _+_, _-_, _*_, _≤_, _<_}
+use native.Mathlib.Nat.{add-mul}
+use native.Mathlib.Numerals.{add-one}
+use native.Mathlib.Omega.{arith}
+use lib.ListN.{length}
+use Rattle.units.specs.Writing.{written}
+use Rattle.units.proofs.Pieces.{piece-holds}
+use Rattle.units.proofs.Writing.{written-none}
 use Rattle.map.specs.Making.{madeEntry}
 use Rattle.map.specs.Files.{pages, place, entry, entryBytes}
 use Rattle.map.specs.Numbers.{endToEnd}
-use Rattle.units.proofs.Pieces.{piece-holds}
-use Rattle.units.proofs.Writing.{written-none}
-use Rattle.units.specs.Writing.{written}
-use lib.ListN.{length}
-use native.Mathlib.Omega.{arith}
-use native.Mathlib.Numerals.{add-one}
-use Prim.Native.Nat.{ℕ, suc, _+_, _-_, _*_, _≤_, _<_}
-use mathlib.Core.List.{List, []}
-use mathlib.Core.Path.{_≡_, refl, sym, ap, ap₂, _∙_}
+use Rattle.map.specs.declared.Entry.{Entry}
+use Rattle.map.proofs.Making.{made-n, made-length, next-place, entry-inside}
+use Rattle.map.proofs.Runs.{run-turn, run-none}
 use Rattle.map.proofs.put_entries.Statement.{statement}
 use Rattle.map.proofs.put_entries.Tie as tie
-use Rattle.map.proofs.put_entries.Reads as reads
-use Rattle.map.proofs.put_entries.Lts as lts
-use Rattle.map.proofs.made_entry.Reads as made-entry-reads
-use Rattle.map.proofs.pages.Reads as pages-reads
-use Rattle.map.proofs.put_entry.Reads as put-entry-reads
 
 abbrev Inv-loop : tie.InvT-loop
 Inv-loop h bucket output₀ count k₀ output k =
@@ -50,19 +45,24 @@ loop-holds c =
 
 made-entry-requires : tie.Need-made-entry-requires Inv-loop μ-loop
 made-entry-requires c κs =
+    let required : _ = c .before .before .before .before .before .pre in
     let args : _ = c .before .before .before .before .before .args in
     let inside : c .before .loop .k < pages (args .h) = omega arith in
-    let in-bucket : c .before .loop .k * args .h .page .count < args .h .bucket .count = piece-holds (args .h .page .count) (args .h .bucket .count) (c .before .before .before .before .before .pre .1) (c .before .loop .k) inside in
-    omega (arith, c .before .before .before .before .before .pre .2)
+    let in-bucket : c .before .loop .k * args .h .page .count < args .h .bucket .count =
+    piece-holds (args .h .page .count) (args .h .bucket .count) (required .1) (c .before .loop .k) inside in
+    omega (arith, required .2)
 
 put-entry-requires : tie.Need-put-entry-requires Inv-loop μ-loop
 put-entry-requires c κs =
+    let required : _ = c .before .before .before .before .before .before .before .pre in
+    let loop : _ = c .before .before .before .loop in
     let args : _ = c .before .before .before .before .before .before .before .args in
-    let k : ℕ = c .before .before .before .loop .k in
-    let n : c .before .made-entry .result .signature .n ≡ args .h .n = ap (λ (e : Entry). e .signature .n) (c .before .made-entry .ensures) ∙ made-n (args .h .n) (args .h .page .count) (args .bucket .now) k in
+    let k : ℕ = loop .k in
+    let n : c .before .made-entry .result .signature .n ≡ args .h .n =
+    ap (λ (e : Entry). e .signature .n) (c .before .made-entry .ensures) ∙ made-n (args .h .n) (args .h .page .count) (args .bucket .now) _ in
     let below : k < pages (args .h) = omega arith in
-    let fits : place (args .h .n) k + entryBytes (args .h .n) ≤ length (c .before .before .before .loop .output) = omega (arith, entry-inside (args .h .n) k (pages (args .h)) below, c .before .before .before .before .before .before .before .pre .3) in
-    subst (λ (m : ℕ). (m ≤ 4) × (place m k + entryBytes m ≤ length (c .before .before .before .loop .output))) (sym n) (c .before .before .before .before .before .before .before .pre .0, fits)
+    let fits : place (args .h .n) k + entryBytes (args .h .n) ≤ length (loop .output) = omega (arith, entry-inside (args .h .n) k (pages (args .h)) below, required .3) in
+    subst (λ (m : ℕ). (m ≤ 4) × (place m k + entryBytes m ≤ length (loop .output))) (sym n) (required .0, fits)
 
 add-k : tie.Need-add-k Inv-loop μ-loop
 add-k c = omega arith
@@ -72,26 +72,33 @@ loop-less c = omega arith
 
 loop-again : tie.Need-loop-again Inv-loop μ-loop
 loop-again c =
+    let required : _ = c .before .before .before .before .before .before .before .before .before .before .pre in
+    let pages-here : _ = c .before .before .before .before .before .before .before .pages in
+    let made-entry : _ = c .before .before .before .before .made-entry in
+    let put-entry : _ = c .before .before .put-entry in
     let args : _ = c .before .before .before .before .before .before .before .before .before .before .args in
     let at : _ = c .before .before .before .before .before .before .loop in
     let n : ℕ = args .h .n in
     let made : ℕ → Entry = madeEntry n (args .h .page .count) (args .bucket .now) in
     let f : ℕ → List ℕ = λ i. entry (made i) in
-    let m : ℕ = c .before .before .before .before .before .before .before .pages .result - (at .k + 1) in
-    let last : List ℕ = c .before .before .put-entry .last .1 .0 in
-    let put : last ≡ written (at .output) (place n (at .k)) (f (at .k)) = c .before .before .put-entry .ensures ∙ ap (λ (e : Entry). written (at .output) (place (e .signature .n) (at .k)) (entry e)) (c .before .before .before .before .made-entry .ensures) ∙ ap (λ (i : ℕ). written (at .output) (place i (at .k)) (f (at .k))) (made-n n (args .h .page .count) (args .bucket .now) (at .k)) in
-    let up : suc m ≡ c .before .before .before .before .before .before .before .pages .result - at .k = omega arith in
+    let m : ℕ = pages-here .result - (at .k + 1) in
+    let last : List ℕ = put-entry .last .1 .0 in
+    let put : last ≡ written (at .output) (place n (at .k)) (f (at .k)) =
+    put-entry .ensures ∙ ap (λ (e : Entry). written (at .output) (place (e .signature .n) (at .k)) (entry e)) (made-entry .ensures)
+    ∙ ap (λ (i : ℕ). written (at .output) (place i (at .k)) (f (at .k))) (made-n n (args .h .page .count) (args .bucket .now) (at .k)) in
+    let up : suc m ≡ pages-here .result - at .k = omega arith in
     let whole : at .k + suc m ≡ pages (args .h) = omega arith in
     let split : (at .k + suc m) * entryBytes n ≡ at .k * entryBytes n + suc m * entryBytes n = add-mul (at .k) (suc m) (entryBytes n) in
     let same : place n (at .k + suc m) ≡ place n (pages (args .h)) = ap (place n) whole in
-    let fits : place n (at .k) + suc m * entryBytes n ≤ length (at .output) = omega (arith, c .before .before .before .before .before .before .before .before .before .before .pre .3) in
-    let turn : written (written (at .output) (place n (at .k)) (f (at .k))) (place n (at .k) + entryBytes n) (endToEnd f (suc (at .k)) m) ≡ written (at .output) (place n (at .k)) (endToEnd f (at .k) (suc m)) = run-turn f (entryBytes n) (made-length n (args .h .page .count) (args .bucket .now)) (at .output) (place n (at .k)) m (at .k) fits in (
+    let fits : place n (at .k) + suc m * entryBytes n ≤ length (at .output) = omega (arith, required .3) in
+    let turn : written (written (at .output) (place n (at .k)) (f (at .k))) (place n (at .k) + entryBytes n) (endToEnd f (suc (at .k)) m) ≡ written (at .output) (place n (at .k))
+    (endToEnd f (at .k) (suc m)) = run-turn f (entryBytes n) (made-length n (args .h .page .count) (args .bucket .now)) (at .output) (place n (at .k)) m (at .k) fits in (
       ap₂ (λ (l : List ℕ) (j : ℕ). written l (place n j) (endToEnd f j m)) put (add-one (at .k))
           ∙ ap (λ (i : ℕ). written (written (at .output) (place n (at .k)) (f (at .k))) i (endToEnd f (suc (at .k)) m)) (next-place n (at .k))
           ∙ turn
           ∙ ap (λ (i : ℕ). written (at .output) (place n (at .k)) (endToEnd f (at .k) i)) up
           ∙ at .inv .0,
-      c .before .before .put-entry .kept .1 .0 ∙ at .inv .1,
+      put-entry .kept .1 .0 ∙ at .inv .1,
       omega arith,
       at .inv .3,
     )
@@ -101,13 +108,16 @@ same-length c = c .before .loop .inv .1
 
 returns : tie.Need-returns Inv-loop μ-loop
 returns c =
+    let required : _ = c .before .before .before .before .before .pre in
+    let pages-here : _ = c .before .before .pages in
     let args : _ = c .before .before .before .before .before .args in
     let at : _ = c .before .loop in
     let f : ℕ → List ℕ = λ i. entry (madeEntry (args .h .n) (args .h .page .count) (args .bucket .now) i) in
     let end : at .k ≡ pages (args .h) = omega arith in
-    let none : c .before .before .pages .result - at .k ≡ 0 = omega arith in
-    let inside : place (args .h .n) (at .k) ≤ length (at .output) = omega (arith, ap (place (args .h .n)) end, c .before .before .before .before .before .pre .3) in
-    sym (written-none (at .output) (place (args .h .n) (at .k)) inside) ∙ ap (written (at .output) (place (args .h .n) (at .k))) (sym (run-none f (at .k))) ∙ ap (λ (m : ℕ). written (at .output) (place (args .h .n) (at .k)) (endToEnd f (at .k) m)) (sym none) ∙ at .inv .0
+    let none : pages-here .result - at .k ≡ 0 = omega arith in
+    let inside : place (args .h .n) (at .k) ≤ length (at .output) = omega (arith, ap (place (args .h .n)) end, required .3) in
+    sym (written-none (at .output) (place (args .h .n) (at .k)) inside) ∙ ap (written (at .output) (place (args .h .n) (at .k))) (sym (run-none f (at .k)))
+    ∙ ap (λ (m : ℕ). written (at .output) (place (args .h .n) (at .k)) (endToEnd f (at .k) m)) (sym none) ∙ at .inv .0
 
 pub put-entries-spec : {M : Type 1} → statement M
 put-entries-spec =

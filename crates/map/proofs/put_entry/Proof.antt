@@ -1,20 +1,17 @@
-use Rattle.map.proofs.Tagging.{tagged-written, components-length}
-use Rattle.map.specs.Files.{components, entry, tagged, place}
-use Rattle.map.specs.Numbers.{lowBytes}
-use Rattle.signature.specs.Signatures.{handed}
-use Rattle.units.specs.Writing.{written}
-use native.Mathlib.Omega.{arith}
-use Prim.Native.Nat.{ℕ, _+_, _*_}
+-- `map::put_entry` meets its contract: tag with length, and the components after it, are the entry.
+-- Assumes nothing.
+use mathlib.Core.Path.{_≡_, ap, ap₂, _∙_}
 use mathlib.Core.List.{List, _∷_}
-use mathlib.Core.Path.{_≡_, sym, ap, ap₂, _∙_}
+use Prim.Native.Nat.{ℕ, _+_, _*_}
+use native.Mathlib.Omega.{arith}
 use borrow.Author.Needs.{needs}
+use Rattle.units.specs.Writing.{written}
+use Rattle.signature.specs.Signatures.{handed}
+use Rattle.map.specs.Files.{components, entry, place}
+use Rattle.map.specs.Numbers.{lowBytes}
+use Rattle.map.proofs.Tagging.{tagged-written, components-length}
 use Rattle.map.proofs.put_entry.Statement.{statement}
 use Rattle.map.proofs.put_entry.Tie as tie
-use Rattle.map.proofs.put_entry.Reads as reads
-use Rattle.map.proofs.put_entry.Lts as lts
-use Rattle.map.proofs.place.Reads as place-reads
-use Rattle.map.proofs.put_components.Reads as put-components-reads
-use Rattle.map.proofs.put_tag.Reads as put-tag-reads
 
 place-requires : tie.Need-place-requires
 place-requires c κs = search needs
@@ -37,11 +34,17 @@ same-length c = search needs
 returns : tie.Need-returns
 unfolding entry
 returns c =
+    let required : _ = c .before .before .before .before .before .before .before .before .before .before .before .before .pre in
+    let place-here : _ = c .before .before .before .before .before .before .before .before .before .place in
+    let put-tag : _ = c .before .before .before .before .before .before .put-tag in
+    let put-components : _ = c .before .before .put-components in
     let args : _ = c .before .before .before .before .before .before .before .before .before .before .before .before .args in
     let n : ℕ = args .e .signature .n in
     let value : List ℕ = components n (handed (args .e .signature)) in
-    let tag : c .before .before .before .before .before .before .put-tag .last .1 .1 .0 ≡ written (args .map .now) (place n (args .k)) (args .e .tag ∷ lowBytes 2 (2 * n)) = c .before .before .before .before .before .before .put-tag .ensures ∙ ap (λ (at : ℕ). written (args .map .now) at (args .e .tag ∷ lowBytes 2 (2 * n))) (c .before .before .before .before .before .before .before .before .before .place .ensures) in
-    c .before .before .put-components .ensures ∙ ap₂ (λ (l : List ℕ) (at : ℕ). written l (at + 3) value) tag (c .before .before .before .before .before .before .before .before .before .place .ensures) ∙ tagged-written (args .map .now) (place n (args .k)) (args .e .tag) (2 * n) value (components-length n _) (omega (arith, c .before .before .before .before .before .before .before .before .before .before .before .before .pre .1))
+    let tag : put-tag .last .1 .1 .0 ≡ written (args .map .now) (place n (args .k)) (args .e .tag ∷ lowBytes 2 (2 * n)) =
+    put-tag .ensures ∙ ap (λ (at : ℕ). written (args .map .now) at (args .e .tag ∷ lowBytes 2 (2 * n))) (place-here .ensures) in
+    put-components .ensures ∙ ap₂ (λ (l : List ℕ) (at : ℕ). written l (at + 3) value) tag (place-here .ensures)
+    ∙ tagged-written (args .map .now) (place n (args .k)) (args .e .tag) (2 * n) value (components-length n _) (omega (arith, required .1))
 
 pub put-entry-spec : {M : Type 1} → statement M
 put-entry-spec =

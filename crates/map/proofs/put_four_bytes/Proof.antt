@@ -1,18 +1,17 @@
-use Rattle.map.proofs.Numbers.{low-bytes-length, low-bytes-halves}
-use Rattle.map.specs.Numbers.{lowBytes}
-use Rattle.units.proofs.Writing.{written-append}
-use Rattle.units.specs.Writing.{written}
-use lib.ListN.{length}
-use native.Mathlib.Omega.{arith}
-use Prim.Native.Nat.{ℕ, _+_, _/_, _≤_}
-use mathlib.Core.List.{List, _++_}
+-- `map::put_four_bytes` meets its contract: four bytes are two and two.
+-- Assumes nothing.
 use mathlib.Core.Path.{_≡_, sym, ap, _∙_}
+use mathlib.Core.List.{List}
+use Prim.Native.Nat.{ℕ, _+_, _/_, _≤_}
+use native.Mathlib.Omega.{arith}
+use lib.ListN.{length}
 use borrow.Author.Needs.{needs}
+use Rattle.units.specs.Writing.{written}
+use Rattle.units.proofs.Writing.{written-append}
+use Rattle.map.specs.Numbers.{lowBytes}
+use Rattle.map.proofs.Numbers.{low-bytes-length, low-bytes-halves}
 use Rattle.map.proofs.put_four_bytes.Statement.{statement}
 use Rattle.map.proofs.put_four_bytes.Tie as tie
-use Rattle.map.proofs.put_four_bytes.Reads as reads
-use Rattle.map.proofs.put_four_bytes.Lts as lts
-use Rattle.map.proofs.put_two_bytes.Reads as put-two-bytes-reads
 
 put-two-bytes-requires : tie.Need-put-two-bytes-requires
 put-two-bytes-requires c κs = search needs
@@ -28,13 +27,16 @@ same-length c = search needs
 
 returns : tie.Need-returns
 returns c =
+    let required : _ = c .before .before .before .before .before .before .before .before .before .pre in
+    let put-two-bytes : _ = c .before .before .before .before .before .before .put-two-bytes in
+    let put-two-bytes2 : _ = c .before .before .put-two-bytes2 in
     let args : _ = c .before .before .before .before .before .before .before .before .before .args in
     let low : List ℕ = lowBytes 2 (args .x) in
     let high : List ℕ = lowBytes 2 (args .x / 65536) in
-    let first : c .before .before .before .before .before .before .put-two-bytes .last .1 .0 ≡ written (args .output .now) (args .at) low = c .before .before .before .before .before .before .put-two-bytes .ensures in
+    let first : put-two-bytes .last .1 .0 ≡ written (args .output .now) (args .at) low = put-two-bytes .ensures in
     let two : length low ≡ 2 = low-bytes-length 2 _ in
-    let fits : args .at + (length low + length high) ≤ length (args .output .now) = omega (arith, low-bytes-length 2 (args .x / 65536), c .before .before .before .before .before .before .before .before .before .pre) in
-    c .before .before .put-two-bytes2 .ensures
+    let fits : args .at + (length low + length high) ≤ length (args .output .now) = omega (arith, low-bytes-length 2 (args .x / 65536), required) in
+    put-two-bytes2 .ensures
     ∙ ap (λ (l : List ℕ). written l (args .at + 2) high) first
     ∙ ap (λ (k : ℕ). written (written (args .output .now) (args .at) low) (args .at + k) high) (sym two)
     ∙ written-append (args .output .now) (args .at) low high fits

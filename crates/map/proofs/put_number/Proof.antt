@@ -1,18 +1,16 @@
+-- `map::put_number` meets its contract: tag with length, and the value after it, are the field.
+-- Assumes nothing.
+use mathlib.Core.Path.{ap, _∙_}
+use mathlib.Core.List.{List}
+use Prim.Native.Nat.{ℕ, _+_}
 use native.Mathlib.Omega.{arith}
+use borrow.Author.Needs.{needs}
+use Rattle.units.specs.Writing.{written}
+use Rattle.map.specs.Numbers.{lowBytes}
 use Rattle.map.proofs.Tagging.{tagged-written}
 use Rattle.map.proofs.Numbers.{low-bytes-length}
-use Rattle.map.specs.Numbers.{lowBytes}
-use Rattle.units.specs.Writing.{written}
-use Prim.Native.Nat.{ℕ, _+_}
-use mathlib.Core.List.{List, _∷_}
-use mathlib.Core.Path.{_≡_, ap, _∙_}
-use borrow.Author.Needs.{needs}
 use Rattle.map.proofs.put_number.Statement.{statement}
 use Rattle.map.proofs.put_number.Tie as tie
-use Rattle.map.proofs.put_number.Reads as reads
-use Rattle.map.proofs.put_number.Lts as lts
-use Rattle.map.proofs.put_four_bytes.Reads as put-four-bytes-reads
-use Rattle.map.proofs.put_tag.Reads as put-tag-reads
 
 put-tag-requires : tie.Need-put-tag-requires
 put-tag-requires c κs = search needs
@@ -28,9 +26,13 @@ same-length c = search needs
 
 returns : tie.Need-returns
 returns c =
+    let required : _ = c .before .before .before .before .before .before .before .before .before .pre in
+    let put-tag : _ = c .before .before .before .before .before .before .put-tag in
+    let put-four-bytes : _ = c .before .before .put-four-bytes in
     let args : _ = c .before .before .before .before .before .before .before .before .before .args in
     let value : List ℕ = lowBytes 4 (args .x) in
-    c .before .before .put-four-bytes .ensures ∙ ap (λ (l : List ℕ). written l (args .at + 3) value) (c .before .before .before .before .before .before .put-tag .ensures) ∙ tagged-written (args .output .now) (args .at) (args .tag) 4 value (low-bytes-length 4 (args .x)) (omega (arith, c .before .before .before .before .before .before .before .before .before .pre))
+    put-four-bytes .ensures ∙ ap (λ (l : List ℕ). written l (args .at + 3) value) (put-tag .ensures)
+    ∙ tagged-written (args .output .now) (args .at) (args .tag) 4 value (low-bytes-length 4 (args .x)) (omega (arith, required))
 
 pub put-number-spec : {M : Type 1} → statement M
 put-number-spec =

@@ -1,15 +1,14 @@
-use Rattle.map.proofs.Numbers.{low-bytes-length}
-use Rattle.map.specs.Numbers.{lowBytes}
-use Rattle.units.proofs.Writing.{written-cons}
-use lib.ListN.{length-set}
-use native.Mathlib.Omega.{arith}
+-- `map::put_tag` meets its contract: a store, and the length after it.
+-- Assumes nothing.
 use mathlib.Core.Path.{_∙_}
+use native.Mathlib.Omega.{arith}
+use lib.ListN.{length-set}
 use borrow.Author.Needs.{needs}
+use Rattle.units.proofs.Writing.{written-cons}
+use Rattle.map.specs.Numbers.{lowBytes}
+use Rattle.map.proofs.Numbers.{low-bytes-length}
 use Rattle.map.proofs.put_tag.Statement.{statement}
 use Rattle.map.proofs.put_tag.Tie as tie
-use Rattle.map.proofs.put_tag.Reads as reads
-use Rattle.map.proofs.put_tag.Lts as lts
-use Rattle.map.proofs.put_two_bytes.Reads as put-two-bytes-reads
 
 slice-write-output : tie.Need-slice-write-output
 slice-write-output c = search needs
@@ -21,10 +20,16 @@ put-two-bytes-requires : tie.Need-put-two-bytes-requires
 put-two-bytes-requires c κs = simp length-set (omega arith)
 
 same-length : tie.Need-same-length
-same-length c = c .before .before .put-two-bytes .kept .1 .0 ∙ length-set (c .before .before .before .before .before .args .output .now) (c .before .before .before .before .before .args .at) (c .before .before .before .before .before .args .tag)
+same-length c =
+    let args : _ = c .before .before .before .before .before .args in
+    let put-two-bytes : _ = c .before .before .put-two-bytes in
+    put-two-bytes .kept .1 .0 ∙ length-set (args .output .now) (args .at) (args .tag)
 
 returns : tie.Need-returns
-returns c = c .before .before .put-two-bytes .ensures ∙ written-cons (c .before .before .before .before .before .args .output .now) (c .before .before .before .before .before .args .at) (c .before .before .before .before .before .args .tag) (lowBytes 2 (c .before .before .before .before .before .args .size)) (omega (arith, low-bytes-length 2 (c .before .before .before .before .before .args .size)))
+returns c =
+    let args : _ = c .before .before .before .before .before .args in
+    let put-two-bytes : _ = c .before .before .put-two-bytes in
+    put-two-bytes .ensures ∙ written-cons (args .output .now) (args .at) (args .tag) (lowBytes 2 (args .size)) (omega (arith, low-bytes-length 2 (args .size)))
 
 pub put-tag-spec : {M : Type 1} → statement M
 put-tag-spec =

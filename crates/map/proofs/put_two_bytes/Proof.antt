@@ -1,16 +1,15 @@
-use Rattle.map.specs.Numbers.{lowBytes}
-use Rattle.units.proofs.Writing.{written-sets}
-use lib.ListN.{length-set, set}
-use native.Mathlib.Omega.{arith}
-use native.Mathlib.Numerals.{add-one}
-use Prim.Native.Nat.{ℕ, _+_, _/_, _%_}
-use mathlib.Core.List.{List}
+-- `map::put_two_bytes` meets its contract: two stores are the two bytes.
+-- Assumes nothing.
 use mathlib.Core.Path.{sym, ap, _∙_}
+use Prim.Native.Nat.{ℕ, _/_, _%_}
+use native.Mathlib.Numerals.{add-one}
+use native.Mathlib.Omega.{arith}
+use lib.ListN.{length-set, set}
 use borrow.Author.Needs.{needs}
+use Rattle.units.proofs.Writing.{written-sets}
+use Rattle.map.specs.Numbers.{lowBytes}
 use Rattle.map.proofs.put_two_bytes.Statement.{statement}
 use Rattle.map.proofs.put_two_bytes.Tie as tie
-use Rattle.map.proofs.put_two_bytes.Reads as reads
-use Rattle.map.proofs.put_two_bytes.Lts as lts
 
 cast-output : tie.Need-cast-output
 cast-output c = search needs
@@ -32,7 +31,9 @@ same-length c = search needs
 
 returns : tie.Need-returns
 unfolding lowBytes
-returns c = ap (λ (i : ℕ). set (set (c .args .output .now) (c .args .at) (c .args .x % 256)) i (c .args .x / 256 % 256)) (add-one (c .args .at)) ∙ sym (written-sets (c .args .output .now) (c .args .at) (lowBytes 2 (c .args .x)) (omega arith))
+returns c =
+    ap (λ (i : ℕ). set (set (c .args .output .now) (c .args .at) (c .args .x % 256)) i (c .args .x / 256 % 256)) (add-one (c .args .at))
+    ∙ sym (written-sets (c .args .output .now) (c .args .at) (lowBytes 2 (c .args .x)) (omega arith))
 
 pub put-two-bytes-spec : {M : Type 1} → statement M
 put-two-bytes-spec =

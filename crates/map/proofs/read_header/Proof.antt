@@ -1,19 +1,15 @@
-use Rattle.map.proofs.Fields.{Due, bucket-due}
-use Rattle.map.specs.declared.Reading.the-variants.{Holds}
-use Rattle.map.specs.Reading.{nKept, pageKept, bucketKept}
-use borrow.Author.Tests.{not-true, not-false}
-use native.Mathlib.Omega.{arith}
-use mathlib.Core.Bool.{true, false}
+-- `map::read_header` meets its contract: each return is the first rule of the header that is broken, or none.
+-- Assumes nothing.
 use mathlib.Core.Path.{_≡_, sym, ap, _∙_}
+use mathlib.Core.Bool.{true, false}
+use native.Mathlib.Omega.{arith}
 use borrow.Author.Needs.{needs}
+use borrow.Author.Tests.{not-true, not-false}
+use Rattle.map.specs.Reading.{nKept, pageKept, bucketKept}
+use Rattle.map.specs.declared.Reading.the-variants.{Holds}
+use Rattle.map.proofs.Fields.{Due, bucket-due}
 use Rattle.map.proofs.read_header.Statement.{statement}
 use Rattle.map.proofs.read_header.Tie as tie
-use Rattle.map.proofs.read_header.Reads as reads
-use Rattle.map.proofs.read_header.Lts as lts
-use Rattle.map.proofs.bucket_kept.Reads as bucket-kept-reads
-use Rattle.map.proofs.header_of.Reads as header-of-reads
-use Rattle.map.proofs.n_kept.Reads as n-kept-reads
-use Rattle.map.proofs.page_kept.Reads as page-kept-reads
 
 n-kept-requires : tie.Need-n-kept-requires
 n-kept-requires c κs = search needs
@@ -37,9 +33,14 @@ bucket-kept-requires c κs = search needs
 
 returns-3 : tie.Need-returns-3
 returns-3 c =
-    let n : nKept (c .before .before .before .before .before .before .before .args .map .now) ≡ true = sym (c .before .before .before .before .before .n-kept .ensures) ∙ not-false _ (c .before .before .before .before .if1 .left) in
-    let page : pageKept (c .before .before .before .before .before .before .before .args .map .now) ≡ true = sym (c .before .before .before .page-kept .ensures) ∙ not-false _ (c .before .before .if2 .left) in
-    let bucket : bucketKept (c .before .before .before .before .before .before .before .args .map .now) ≡ false = sym (c .before .bucket-kept .ensures) ∙ not-true _ (c .if3 .taken) in
+    let args : _ = c .before .before .before .before .before .before .before .args in
+    let n-kept : _ = c .before .before .before .before .before .n-kept in
+    let if1 : _ = c .before .before .before .before .if1 in
+    let page-kept : _ = c .before .before .before .page-kept in
+    let if2 : _ = c .before .before .if2 in
+    let n : nKept (args .map .now) ≡ true = sym (n-kept .ensures) ∙ not-false _ (if1 .left) in
+    let page : pageKept (args .map .now) ≡ true = sym (page-kept .ensures) ∙ not-false _ (if2 .left) in
+    let bucket : bucketKept (args .map .now) ≡ false = sym (c .before .bucket-kept .ensures) ∙ not-true _ (c .if3 .taken) in
     simp (n, page, bucket)
 
 header-of-requires : tie.Need-header-of-requires
@@ -50,9 +51,15 @@ header-of-requires c κs =
 
 returns-4 : tie.Need-returns-4
 returns-4 c =
-    let n : nKept (c .before .before .before .before .before .before .before .before .args .map .now) ≡ true = sym (c .before .before .before .before .before .before .n-kept .ensures) ∙ not-false _ (c .before .before .before .before .before .if1 .left) in
-    let page : pageKept (c .before .before .before .before .before .before .before .before .args .map .now) ≡ true = sym (c .before .before .before .before .page-kept .ensures) ∙ not-false _ (c .before .before .before .if2 .left) in
-    let bucket : bucketKept (c .before .before .before .before .before .before .before .before .args .map .now) ≡ true = sym (c .before .before .bucket-kept .ensures) ∙ not-false _ (c .before .if3 .left) in
+    let args : _ = c .before .before .before .before .before .before .before .before .args in
+    let n-kept : _ = c .before .before .before .before .before .before .n-kept in
+    let if1 : _ = c .before .before .before .before .before .if1 in
+    let page-kept : _ = c .before .before .before .before .page-kept in
+    let if2 : _ = c .before .before .before .if2 in
+    let bucket-kept : _ = c .before .before .bucket-kept in
+    let n : nKept (args .map .now) ≡ true = sym (n-kept .ensures) ∙ not-false _ (if1 .left) in
+    let page : pageKept (args .map .now) ≡ true = sym (page-kept .ensures) ∙ not-false _ (if2 .left) in
+    let bucket : bucketKept (args .map .now) ≡ true = sym (bucket-kept .ensures) ∙ not-false _ (c .before .if3 .left) in
     simp (n, page, bucket) (ap Holds (c .header-of .ensures))
 
 pub read-header-spec : {M : Type 1} → statement M

@@ -1,12 +1,12 @@
-use Rattle.map.proofs.Numbers.{two-bytes}
-use Prim.Native.Nat.{_+_}
+-- `map::two_bytes` meets its contract: two bytes, low byte first, fit a word.
+-- Assumes nothing.
 use mathlib.Core.Path.{sym}
+use Prim.Native.Nat.{_+_}
 use native.Mathlib.Omega.{arith}
 use borrow.Author.Needs.{needs}
+use Rattle.map.proofs.Numbers.{two-bytes}
 use Rattle.map.proofs.two_bytes.Statement.{statement}
 use Rattle.map.proofs.two_bytes.Tie as tie
-use Rattle.map.proofs.two_bytes.Reads as reads
-use Rattle.map.proofs.two_bytes.Lts as lts
 
 shared-slice-read-result : tie.Need-shared-slice-read-result
 shared-slice-read-result c = search needs

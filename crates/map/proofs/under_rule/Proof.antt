@@ -1,17 +1,16 @@
-use Rattle.signature.specs.Objects.{lowFirst}
-use borrow.Author.Tests.{eq-eqb, ne-eqb, le-leb, lt-leb}
-use lib.ListN.{length}
-use lib.Dec.{eqb, leb}
-use native.Mathlib.Omega.{arith}
-use Prim.Native.Nat.{ℕ, _+_, _≤_, _<_}
-use mathlib.Core.Bool.{true, false}
+-- `map::under_rule` meets its contract: each return is the rule at the tests that led there.
+-- Assumes nothing.
 use mathlib.Core.Path.{_≡_, sym, _∙_}
+use mathlib.Core.Bool.{true, false}
+use Prim.Native.Nat.{_+_, _≤_, _<_}
+use native.Mathlib.Omega.{arith}
+use lib.Dec.{eqb}
+use lib.ListN.{length}
 use borrow.Author.Needs.{needs}
+use borrow.Author.Tests.{eq-eqb, ne-eqb, le-leb, lt-leb}
+use Rattle.signature.specs.Objects.{lowFirst}
 use Rattle.map.proofs.under_rule.Statement.{statement}
 use Rattle.map.proofs.under_rule.Tie as tie
-use Rattle.map.proofs.under_rule.Reads as reads
-use Rattle.map.proofs.under_rule.Lts as lts
-use Rattle.map.proofs.two_bytes.Reads as two-bytes-reads
 
 add-two-bytes : tie.Need-add-two-bytes
 add-two-bytes c = search needs
@@ -21,7 +20,8 @@ two-bytes-requires c κs = search needs
 
 returns : tie.Need-returns
 returns c =
-    let other : eqb (lowFirst 2 (c .before .before .before .args .map .now) (c .before .before .before .args .at + 1)) (c .before .before .before .args .size) ≡ false = ne-eqb _ _ (λ e. c .if1 .taken (c .before .two-bytes .ensures ∙ e)) in
+    let args : _ = c .before .before .before .args in
+    let other : eqb (lowFirst 2 (args .map .now) (args .at + 1)) (args .size) ≡ false = ne-eqb _ _ (λ e. c .if1 .taken (c .before .two-bytes .ensures ∙ e)) in
     simp other
 
 add-value : tie.Need-add-value
@@ -32,8 +32,10 @@ sub-if2 c = search needs
 
 returns-2 : tie.Need-returns-2
 returns-2 c =
-    let same : eqb (lowFirst 2 (c .before .before .before .before .args .map .now) (c .before .before .before .before .args .at + 1)) (c .before .before .before .before .args .size) ≡ true = eq-eqb _ _ (sym (c .before .before .two-bytes .ensures) ∙ c .before .if1 .left) in
-    let past : length (c .before .before .before .before .args .map .now) < c .before .before .before .before .args .at + 3 + c .before .before .before .before .args .size = omega arith in
+    let args : _ = c .before .before .before .before .args in
+    let two-bytes : _ = c .before .before .two-bytes in
+    let same : eqb (lowFirst 2 (args .map .now) (args .at + 1)) (args .size) ≡ true = eq-eqb _ _ (sym (two-bytes .ensures) ∙ c .before .if1 .left) in
+    let past : length (args .map .now) < args .at + 3 + args .size = omega arith in
     simp (same, lt-leb _ _ past)
 
 shared-slice-read-t9 : tie.Need-shared-slice-read-t9
@@ -44,8 +46,11 @@ add-t5 c = search needs
 
 returns-3 : tie.Need-returns-3
 returns-3 c =
-    let same : eqb (lowFirst 2 (c .before .before .before .before .before .args .map .now) (c .before .before .before .before .before .args .at + 1)) (c .before .before .before .before .before .args .size) ≡ true = eq-eqb _ _ (sym (c .before .before .before .two-bytes .ensures) ∙ c .before .before .if1 .left) in
-    let inside : c .before .before .before .before .before .args .at + 3 + c .before .before .before .before .before .args .size ≤ length (c .before .before .before .before .before .args .map .now) = omega arith in
+    let args : _ = c .before .before .before .before .before .args in
+    let two-bytes : _ = c .before .before .before .two-bytes in
+    let if1 : _ = c .before .before .if1 in
+    let same : eqb (lowFirst 2 (args .map .now) (args .at + 1)) (args .size) ≡ true = eq-eqb _ _ (sym (two-bytes .ensures) ∙ if1 .left) in
+    let inside : args .at + 3 + args .size ≤ length (args .map .now) = omega arith in
     simp (same, le-leb _ _ inside)
 
 pub under-rule-spec : {M : Type 1} → statement M

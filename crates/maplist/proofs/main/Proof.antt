@@ -1,21 +1,15 @@
-use lib.Seq.{length-take-le}
+-- `maplist::main` meets its contract: what was answered as written is inside the output.
+-- Assumes nothing.
+use mathlib.Core.Path.{sym, ap, _∙_, subst}
 use Prim.Native.Nat.{ℕ, _≤_}
-use mathlib.Core.Path.{_≡_, sym, ap, _∙_, subst}
-use Rattle.listing.proofs.Texts.{text-fits}
-use Rattle.units.specs.declared.Filled.{Filled}
-use Rattle.units.specs.Filling.{outcomeOf}
 use lib.ListN.{length}
-use native.Mathlib.Omega.{arith}
-use Prim.Native.Nat.{_≤_}
-use mathlib.Core.Path.{_≡_, sym, ap, _∙_}
+use lib.Seq.{length-take-le}
 use borrow.Author.Needs.{needs}
+use Rattle.units.specs.Filling.{outcomeOf}
+use Rattle.units.specs.declared.Filled.{Filled}
+use Rattle.listing.proofs.Texts.{text-fits}
 use Rattle.maplist.proofs.main.Statement.{statement}
 use Rattle.maplist.proofs.main.Tie as tie
-use Rattle.maplist.proofs.main.Reads as reads
-use Rattle.maplist.proofs.main.Lts as lts
-use Rattle.io.proofs.read_full.Reads as read-full-reads
-use Rattle.io.proofs.write_all.Reads as write-all-reads
-use Rattle.listing.proofs.list.Reads as list-reads
 
 inside : (c : tie.After-text) → c .text .given .0 .0 .count ≤ length (c .before .before .before .list .last .1 .0)
 inside c =

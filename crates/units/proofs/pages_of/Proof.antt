@@ -1,13 +1,13 @@
-use Rattle.units.proofs.Pieces.{pieces-whole, pieces-part}
-use native.Mathlib.Omega.{arith}
-use native.Mathlib.Nat.{div-zero, div-add-mod', mul-le-mul-left, mul-one}
-use Prim.Native.Nat.{ℕ, _+_, _-_, _*_, _/_, _%_, _≤_, _<_}
+-- `units::pages_of` meets its contract: a part of a page counts as a whole one.
+-- Assumes nothing.
 use mathlib.Core.Path.{_≡_, sym, ap, _∙_}
+use Prim.Native.Nat.{ℕ, _+_, _-_, _*_, _/_, _%_, _≤_, _<_}
+use native.Mathlib.Nat.{div-zero, div-add-mod', mul-le-mul-left, mul-one}
+use native.Mathlib.Omega.{arith}
 use borrow.Author.Needs.{needs}
+use Rattle.units.proofs.Pieces.{pieces-whole, pieces-part}
 use Rattle.units.proofs.pages_of.Statement.{statement}
 use Rattle.units.proofs.pages_of.Tie as tie
-use Rattle.units.proofs.pages_of.Reads as reads
-use Rattle.units.proofs.pages_of.Lts as lts
 
 returns : tie.Need-returns
 returns c =
