@@ -3,3 +3,5 @@ pub mod Digits
 pub mod Lengths
 pub mod Pages
 pub mod Texts
+pub mod Values
+pub mod Listings
