@@ -20,7 +20,7 @@ use Rattle.map.specs.Files.{pages}
 use Rattle.map.specs.Reading.{reading}
 use Rattle.map.specs.declared.Reading.{Reading}
 use Rattle.map.specs.declared.Reading.the-variants.{Holds, Breaks}
-use Rattle.map.proofs.Making.{n-most, pages-most}
+use Rattle.map.proofs.MadeMaps.{n-most, pages-most}
 use Rattle.map.proofs.Contents.{Sized}
 use Rattle.map.proofs.Holding.{holds-sized}
 use Rattle.listing.specs.Lines.{headerLine, lineOf, listed, listing, textOut}

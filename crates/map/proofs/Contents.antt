@@ -27,7 +27,7 @@ use Rattle.map.proofs.Entries.{entry-kept, end-kept, due-entry}
 use Rattle.map.proofs.Headers.{Kept, kept-header, entries-decide}
 use Rattle.map.proofs.Runs.{run-at, run-length}
 use Rattle.map.proofs.Tagging.{tagged-length, header-length, components-length, entry-length}
-use Rattle.map.proofs.Making.{n-most, page-most, bucket-most, next-place}
+use Rattle.map.proofs.MadeMaps.{n-most, page-most, bucket-most, next-place}
 use Rattle.map.proofs.Placed.{value-read, tag-read, placed-due}
 
 -- its sizes are allowed

@@ -5,7 +5,7 @@ pub mod Entries
 pub mod Headers
 pub mod Runs
 pub mod Tagging
-pub mod Making
+pub mod MadeMaps
 pub mod Placed
 pub mod Back
 pub mod Contents

@@ -38,15 +38,15 @@ use Rattle.map.specs.declared.Reading.{Reading}
 use Rattle.map.specs.declared.Reading.the-variants.{Holds, Breaks}
 use Rattle.map.proofs.Entries.{entry-kept, entry-broken, end-broken}
 use Rattle.map.proofs.Headers.{Kept, kept-header, entries-decide, told-breaks, told-holds, map-number}
-use Rattle.map.proofs.Making.{next-place}
+use Rattle.map.proofs.MadeMaps.{next-place}
 use Rattle.map.proofs.Contents.{Sized, Held, file-read, file-length, entry-read}
 use Rattle.map.proofs.Octets.{page-octets}
 use Rattle.map.proofs.field_at.Reads as field-at
 use Rattle.map.proofs.read.Reads as read
-use Rattle.map.proofs.make.Reads as make
+use Rattle.map.proofs.making.make.Reads as make
 use Rattle.map.proofs.entry_at.Reads as entry-at
-use Rattle.map.proofs.put_entry.Reads as put-entry
-use Rattle.map.proofs.page_at.Reads as page-at
+use Rattle.map.proofs.making.put_entry.Reads as put-entry
+use Rattle.map.proofs.making.page_at.Reads as page-at
 
 -- ---- no second answer meets a contract, and what is lent ends as one list
 

@@ -1,22 +1,21 @@
 // The signature map of a bucket: its file read field by field, one entry read and written, and the whole map made.
+mod making;
+
+pub use making::component;
+pub use making::make;
+pub use making::page_at;
+pub use making::put_entry;
 ghost use mathlib.Core.Path.{_≡_};
-ghost use mathlib.Core.List.{_∷_};
 ghost use Prim.Native.Nat.{_+_, _*_, _^_, _<_, _≤_};
-ghost use lib.ListN.{length, take, drop};
-ghost use Rattle.units.specs.Writing.{written};
-ghost use Rattle.units.specs.Filling.{outcomeOf};
-ghost use Rattle.signature.specs.Objects.{lowFirst};
-ghost use Rattle.signature.specs.Signatures.{handed, upTo};
-ghost use Rattle.map.specs.Numbers.{lowBytes};
-ghost use Rattle.map.specs.Buckets.{pageAt};
-ghost use Rattle.map.specs.Files.{tagged, entries, header as File·header, components as File·components, entry as File·entry, pages as Header·pages, place as File·place, entryBytes, fileBytes};
-ghost use Rattle.map.specs.Reading.{fieldAt, underRule, long, isDue, headerOf, headerTests, entryTests, told, reading, entryAt, nKept, pageKept, bucketKept};
-ghost use Rattle.map.specs.Making.{madeEntry, making};
+ghost use lib.ListN.{length};
 ghost use Rattle.units.specs.Refusals.{first};
+ghost use Rattle.signature.specs.Objects.{lowFirst};
+ghost use Rattle.signature.specs.Signatures.{upTo};
+ghost use Rattle.map.specs.Files.{entryBytes};
+ghost use Rattle.map.specs.Files.{pages as Header·pages, place as File·place};
+ghost use Rattle.map.specs.Reading.{fieldAt, underRule, long, isDue, headerOf, headerTests, entryTests, told, reading, entryAt, nKept, pageKept, bucketKept};
 use signature::Signature;
 use units::Bytes;
-use units::Filled;
-use units::Refusal;
 use units::Symbols;
 
 pub struct Header {
@@ -248,154 +247,4 @@ fn component_at(n: usize, j: usize, map: &[u8], at: usize) -> u16
     } else {
         two_bytes(map, at + 1 + 2 * j) as u16
     }
-}
-
-// Page k of a bucket.
-pub fn page_at<'a>(page: Bytes, bucket: &'a [u8], k: usize) -> &'a [u8]
-    requires { ⌜ k * page .count ≤ length (now bucket) ⌝ }
-    ensures { λ r. ⌜ now r ≡ pageAt (page .count) (now (bucket .entry)) k ⌝ }
-{
-    let size = page.count;
-    let start = k * size;
-    if size < bucket.len() - start {
-        let end = start + size;
-        return &bucket[start..end];
-    }
-    &bucket[start..]
-}
-
-fn put_two_bytes(x: usize, output: &mut [u8], at: usize)
-    requires { ⌜ at + 2 ≤ length (now output) ⌝ }
-    ensures { λ _. ⌜ now (output .exit) ≡ written (now (output .entry)) at (lowBytes 2 x) ⌝ }
-{
-    output[at] = (x % 256) as u8;
-    output[at + 1] = (x / 256 % 256) as u8;
-}
-
-fn put_four_bytes(x: usize, output: &mut [u8], at: usize)
-    requires { ⌜ at + 4 ≤ length (now output) ⌝ }
-    ensures { λ _. ⌜ now (output .exit) ≡ written (now (output .entry)) at (lowBytes 4 x) ⌝ }
-{
-    put_two_bytes(x, output, at);
-    put_two_bytes(x / 65536, output, at + 2);
-}
-
-fn put_tag(tag: u8, size: usize, output: &mut [u8], at: usize)
-    requires { ⌜ at + 3 ≤ length (now output) ⌝ }
-    ensures { λ _. ⌜ now (output .exit) ≡ written (now (output .entry)) at (tag ∷ lowBytes 2 size) ⌝ }
-{
-    output[at] = tag;
-    put_two_bytes(size, output, at + 1);
-}
-
-// A field whose value is a number of four bytes.
-fn put_number(tag: u8, x: usize, output: &mut [u8], at: usize)
-    requires { ⌜ at + 7 ≤ length (now output) ⌝ }
-    ensures { λ _. ⌜ now (output .exit) ≡ written (now (output .entry)) at (tagged tag (lowBytes 4 x)) ⌝ }
-{
-    put_tag(tag, 4, output, at);
-    put_four_bytes(x, output, at + 3);
-}
-
-fn put_header(h: Header, output: &mut [u8])
-    requires { ⌜ 18 ≤ length (now output) ⌝ }
-    ensures { λ _. ⌜ now (output .exit) ≡ written (now (output .entry)) 0 (File·header h) ⌝ }
-{
-    put_tag(1, 1, output, 0);
-    output[3] = (h.n % 256) as u8;
-    put_number(2, h.page.count, output, 4);
-    put_number(3, h.bucket.count, output, 11);
-}
-
-// Component j of a signature as it is handed over.
-pub fn component(s: Signature, j: usize) -> u16
-    ensures { λ r. ⌜ r ≡ handed s j ⌝ }
-{
-    match j {
-        1 => s.s1,
-        2 => s.s2,
-        3 => s.s3,
-        4 => s.s4,
-        _ => 0,
-    }
-}
-
-fn put_components(s: Signature, output: &mut [u8], at: usize)
-    requires { ⌜ at + 2 * s .n ≤ length (now output) ⌝ }
-    ensures { λ _. ⌜ now (output .exit) ≡ written (now (output .entry)) at (File·components (s .n) (handed s)) ⌝ }
-{
-    let mut left = s.n;
-    let mut j: usize = 1;
-    let mut to = at;
-    while left > 0 {
-        put_two_bytes(component(s, j) as usize, output, to);
-        to += 2;
-        j += 1;
-        left -= 1;
-    }
-}
-
-// The entry of page k, written over what stood there.
-pub fn put_entry(e: Entry, map: &mut [u8], k: usize)
-    requires { ⌜ (e .signature .n ≤ 4) × (File·place (e .signature .n) k + entryBytes (e .signature .n) ≤ length (now map)) ⌝ }
-    ensures { λ _. ⌜ now (map .exit) ≡ written (now (map .entry)) (File·place (e .signature .n) k) (File·entry e) ⌝ }
-{
-    let s = e.signature;
-    let at = place(s.n, k);
-    put_tag(e.tag, 2 * s.n, map, at);
-    put_components(s, map, at + 3);
-}
-
-// The entry that a map made from the bucket has for page k.
-fn made_entry(h: Header, bucket: &[u8], k: usize) -> Entry
-    requires { ⌜ k * h .page .count ≤ length (now bucket) ⌝ }
-    ensures { λ r. ⌜ r ≡ madeEntry (h .n) (h .page .count) (now (bucket .entry)) k ⌝ }
-{
-    Entry {
-        tag: 4,
-        signature: signature::own(h.n, page_at(h.page, bucket, k)),
-    }
-}
-
-fn put_entries(h: Header, bucket: &[u8], output: &mut [u8])
-    requires { ⌜ (h .n ≤ 4) × (1 ≤ h .page .count) × (h .bucket .count ≡ length (now bucket)) × (fileBytes (h .n) (Header·pages h) ≤ length (now output)) ⌝ }
-    ensures { λ _. ⌜ now (output .exit) ≡ written (now (output .entry)) 18 (entries (madeEntry (h .n) (h .page .count) (now (bucket .entry))) 0 (Header·pages h)) ⌝ }
-{
-    let count = pages(h);
-    let mut k: usize = 0;
-    while k < count {
-        put_entry(made_entry(h, bucket, k), output, k);
-        k += 1;
-    }
-}
-
-// The map of a bucket, written to the start of the output.
-pub fn make(n: usize, page: Bytes, bucket: &[u8], output: &mut [u8]) -> Filled
-    ensures { λ r. ⌜ outcomeOf r (now (output .exit)) ≡ making n (page .count) (now (bucket .entry)) (now (output .entry)) ⌝ }
-{
-    if !units::n_allowed(n) {
-        return units::refused(Refusal::SIZE, 0);
-    }
-    if !units::page_allowed(page) {
-        return units::refused(Refusal::PAGE, 0);
-    }
-    let all = Bytes {
-        count: bucket.len(),
-    };
-    let count = units::pages_of(page, all);
-    if !units::bucket_allowed(all, count) {
-        return units::refused(Refusal::LONG, 0);
-    }
-    let needed = place(n, count);
-    if output.len() < needed {
-        return units::refused(Refusal::ROOM, needed);
-    }
-    let h = Header {
-        n,
-        page,
-        bucket: all,
-    };
-    put_header(h, output);
-    put_entries(h, bucket, output);
-    Filled::Written(Bytes { count: needed })
 }

@@ -11,7 +11,7 @@ use Rattle.map.specs.declared.Reading.the-variants.{Holds}
 use Rattle.map.specs.declared.Reading.{Reading}
 use Rattle.map.proofs.Holding.{holds-sized, holds-length}
 use Rattle.map.proofs.Contents.{Sized}
-use Rattle.map.proofs.Making.{n-most, pages-most}
+use Rattle.map.proofs.MadeMaps.{n-most, pages-most}
 use Rattle.listing.specs.Lines.{listed, listing, textOut}
 use Rattle.listing.proofs.list.Statement.{statement}
 use Rattle.listing.proofs.list.Tie as tie

@@ -12,7 +12,7 @@ use Rattle.units.proofs.Writing.{written-none}
 use Rattle.signature.specs.Signatures.{handed}
 use Rattle.map.specs.Files.{pages}
 use Rattle.map.specs.Numbers.{endToEnd}
-use Rattle.map.proofs.Making.{entry-inside}
+use Rattle.map.proofs.MadeMaps.{entry-inside}
 use Rattle.map.proofs.Runs.{run-step, run-more, run-none}
 use Rattle.listing.specs.Lines.{pageLine, lineOf}
 use Rattle.listing.proofs.Pages.{entry-line}

@@ -1,4 +1,4 @@
--- `map::put_four_bytes` meets its contract: four bytes are two and two.
+-- `map::making::put_four_bytes` meets its contract: four bytes are two and two.
 -- Assumes nothing.
 use mathlib.Core.Path.{_≡_, sym, ap, _∙_}
 use mathlib.Core.List.{List}
@@ -10,8 +10,8 @@ use Rattle.units.specs.Writing.{written}
 use Rattle.units.proofs.Writing.{written-append}
 use Rattle.map.specs.Numbers.{lowBytes}
 use Rattle.map.proofs.Numbers.{low-bytes-length, low-bytes-halves}
-use Rattle.map.proofs.put_four_bytes.Statement.{statement}
-use Rattle.map.proofs.put_four_bytes.Tie as tie
+use Rattle.map.proofs.making.put_four_bytes.Statement.{statement}
+use Rattle.map.proofs.making.put_four_bytes.Tie as tie
 
 put-two-bytes-requires : tie.Need-put-two-bytes-requires
 put-two-bytes-requires c κs = search needs

@@ -1,4 +1,4 @@
--- `map::put_header` meets its contract: three fields, one right after the other.
+-- `map::making::put_header` meets its contract: three fields, one right after the other.
 -- Assumes nothing.
 use mathlib.Core.Path.{_≡_, sym, ap, _∙_}
 use mathlib.Core.List.{List, _++_, append-assoc}
@@ -12,8 +12,8 @@ use Rattle.map.specs.Files.{tagged, header}
 use Rattle.map.specs.Numbers.{lowBytes}
 use Rattle.map.proofs.Tagging.{tagged-length, tagged-written}
 use Rattle.map.proofs.Numbers.{low-bytes-length}
-use Rattle.map.proofs.put_header.Statement.{statement}
-use Rattle.map.proofs.put_header.Tie as tie
+use Rattle.map.proofs.making.put_header.Statement.{statement}
+use Rattle.map.proofs.making.put_header.Tie as tie
 
 put-tag-requires : tie.Need-put-tag-requires
 put-tag-requires c κs = search needs

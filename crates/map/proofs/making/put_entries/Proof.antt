@@ -1,4 +1,4 @@
--- `map::put_entries` meets its contract. The invariant: what is left to write gives what the whole gives.
+-- `map::making::put_entries` meets its contract. The invariant: what is left to write gives what the whole gives.
 -- Assumes nothing.
 use mathlib.Core.Path.{_≡_, refl, sym, ap, ap₂, _∙_, subst}
 use mathlib.Core.List.{List}
@@ -14,10 +14,10 @@ use Rattle.map.specs.Making.{madeEntry}
 use Rattle.map.specs.Files.{pages, place, entry, entryBytes}
 use Rattle.map.specs.Numbers.{endToEnd}
 use Rattle.map.specs.declared.Entry.{Entry}
-use Rattle.map.proofs.Making.{made-n, made-length, next-place, entry-inside}
+use Rattle.map.proofs.MadeMaps.{made-n, made-length, next-place, entry-inside}
 use Rattle.map.proofs.Runs.{run-turn, run-none}
-use Rattle.map.proofs.put_entries.Statement.{statement}
-use Rattle.map.proofs.put_entries.Tie as tie
+use Rattle.map.proofs.making.put_entries.Statement.{statement}
+use Rattle.map.proofs.making.put_entries.Tie as tie
 
 abbrev Inv-loop : tie.InvT-loop
 Inv-loop h bucket output₀ count k₀ output k =

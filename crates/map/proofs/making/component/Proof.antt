@@ -1,12 +1,12 @@
--- `map::component` meets its contract: outside 1 to 4 there is none.
+-- `map::making::component` meets its contract: outside 1 to 4 there is none.
 -- Assumes nothing.
 use mathlib.Core.Path.{_≡_, refl, sym}
 use Prim.Native.Nat.{ℕ, zero, suc}
 use borrow.Author.Needs.{needs}
 use Rattle.signature.specs.Signatures.{handed}
 use Rattle.signature.specs.declared.Signature.{Signature}
-use Rattle.map.proofs.component.Statement.{statement}
-use Rattle.map.proofs.component.Tie as tie
+use Rattle.map.proofs.making.component.Statement.{statement}
+use Rattle.map.proofs.making.component.Tie as tie
 
 none : (s : Signature) (j : ℕ) → (j ≡ 1 → ⊥) → (j ≡ 2 → ⊥) → (j ≡ 3 → ⊥) → (j ≡ 4 → ⊥) → handed s j ≡ 0
 none s zero a b c d = refl

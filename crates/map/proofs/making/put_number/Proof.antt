@@ -1,4 +1,4 @@
--- `map::put_number` meets its contract: tag with length, and the value after it, are the field.
+-- `map::making::put_number` meets its contract: tag with length, and the value after it, are the field.
 -- Assumes nothing.
 use mathlib.Core.Path.{ap, _∙_}
 use mathlib.Core.List.{List}
@@ -9,8 +9,8 @@ use Rattle.units.specs.Writing.{written}
 use Rattle.map.specs.Numbers.{lowBytes}
 use Rattle.map.proofs.Tagging.{tagged-written}
 use Rattle.map.proofs.Numbers.{low-bytes-length}
-use Rattle.map.proofs.put_number.Statement.{statement}
-use Rattle.map.proofs.put_number.Tie as tie
+use Rattle.map.proofs.making.put_number.Statement.{statement}
+use Rattle.map.proofs.making.put_number.Tie as tie
 
 put-tag-requires : tie.Need-put-tag-requires
 put-tag-requires c κs = search needs

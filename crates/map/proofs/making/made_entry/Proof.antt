@@ -1,4 +1,4 @@
--- `map::made_entry` meets its contract: tag 04, and the page's own signature.
+-- `map::making::made_entry` meets its contract: tag 04, and the page's own signature.
 -- Assumes nothing.
 use mathlib.Core.Path.{ap, _∙_}
 use borrow.Author.Needs.{needs}
@@ -7,8 +7,8 @@ use Rattle.signature.specs.Kinds.{wide}
 use Rattle.signature.specs.declared.Signature.{Signature}
 use Rattle.map.specs.Making.{madeEntry}
 use Rattle.map.specs.declared.Entry.{Entry}
-use Rattle.map.proofs.made_entry.Statement.{statement}
-use Rattle.map.proofs.made_entry.Tie as tie
+use Rattle.map.proofs.making.made_entry.Statement.{statement}
+use Rattle.map.proofs.making.made_entry.Tie as tie
 
 page-at-requires : tie.Need-page-at-requires
 page-at-requires c κs = search needs

@@ -1,4 +1,4 @@
--- `map::put_components` meets its contract. The invariant: what is left to write gives what the whole gives.
+-- `map::making::put_components` meets its contract. The invariant: what is left to write gives what the whole gives.
 -- Assumes nothing.
 use mathlib.Core.Path.{_≡_, refl, sym, ap, ap₂, _∙_}
 use mathlib.Core.List.{List}
@@ -14,8 +14,8 @@ use Rattle.map.specs.Files.{components}
 use Rattle.map.specs.Numbers.{lowBytes, endToEnd}
 use Rattle.map.proofs.Runs.{run-turn, run-none}
 use Rattle.map.proofs.Numbers.{low-bytes-length}
-use Rattle.map.proofs.put_components.Statement.{statement}
-use Rattle.map.proofs.put_components.Tie as tie
+use Rattle.map.proofs.making.put_components.Statement.{statement}
+use Rattle.map.proofs.making.put_components.Tie as tie
 
 abbrev Inv-loop : tie.InvT-loop
 Inv-loop s output₀ at left₀ j₀ to₀ output left j to =

@@ -1,4 +1,4 @@
--- `map::put_entry` meets its contract: tag with length, and the components after it, are the entry.
+-- `map::making::put_entry` meets its contract: tag with length, and the components after it, are the entry.
 -- Assumes nothing.
 use mathlib.Core.Path.{_≡_, ap, ap₂, _∙_}
 use mathlib.Core.List.{List, _∷_}
@@ -10,8 +10,8 @@ use Rattle.signature.specs.Signatures.{handed}
 use Rattle.map.specs.Files.{components, entry, place}
 use Rattle.map.specs.Numbers.{lowBytes}
 use Rattle.map.proofs.Tagging.{tagged-written, components-length}
-use Rattle.map.proofs.put_entry.Statement.{statement}
-use Rattle.map.proofs.put_entry.Tie as tie
+use Rattle.map.proofs.making.put_entry.Statement.{statement}
+use Rattle.map.proofs.making.put_entry.Tie as tie
 
 place-requires : tie.Need-place-requires
 place-requires c κs = search needs

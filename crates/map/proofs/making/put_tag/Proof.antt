@@ -1,4 +1,4 @@
--- `map::put_tag` meets its contract: a store, and the length after it.
+-- `map::making::put_tag` meets its contract: a store, and the length after it.
 -- Assumes nothing.
 use mathlib.Core.Path.{_∙_}
 use native.Mathlib.Omega.{arith}
@@ -7,8 +7,8 @@ use borrow.Author.Needs.{needs}
 use Rattle.units.proofs.Writing.{written-cons}
 use Rattle.map.specs.Numbers.{lowBytes}
 use Rattle.map.proofs.Numbers.{low-bytes-length}
-use Rattle.map.proofs.put_tag.Statement.{statement}
-use Rattle.map.proofs.put_tag.Tie as tie
+use Rattle.map.proofs.making.put_tag.Statement.{statement}
+use Rattle.map.proofs.making.put_tag.Tie as tie
 
 slice-write-output : tie.Need-slice-write-output
 slice-write-output c = search needs

@@ -1,4 +1,4 @@
--- `map::page_at` meets its contract: a page ends where the bucket does, or before.
+-- `map::making::page_at` meets its contract: a page ends where the bucket does, or before.
 -- Assumes nothing.
 use mathlib.Core.Path.{_≡_, sym, ap, _∙_}
 use mathlib.Core.List.{List}
@@ -8,8 +8,8 @@ use lib.ListN.{length, take, drop, length-drop}
 use lib.Seq.{take-all}
 use borrow.Author.Needs.{needs}
 use Rattle.map.specs.Buckets.{pageAt}
-use Rattle.map.proofs.page_at.Statement.{statement}
-use Rattle.map.proofs.page_at.Tie as tie
+use Rattle.map.proofs.making.page_at.Statement.{statement}
+use Rattle.map.proofs.making.page_at.Tie as tie
 
 mul-start : tie.Need-mul-start
 mul-start c = search needs

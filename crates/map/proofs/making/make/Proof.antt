@@ -1,4 +1,4 @@
--- `map::make` meets its contract: each return is the definition at the tests that led there; header and entries are the file.
+-- `map::making::make` meets its contract: each return is the definition at the tests that led there; header and entries are the file.
 -- Assumes nothing.
 use mathlib.Core.Path.{_≡_, refl, sym, ap, ap₂, _∙_, subst}
 use mathlib.Core.Bool.{true, false}
@@ -16,9 +16,9 @@ use Rattle.units.specs.declared.Filled.the-variants.{Written, Refused}
 use Rattle.units.specs.declared.Filled.{Filled}
 use Rattle.map.specs.Making.{making, needed, made, madeEntry}
 use Rattle.map.specs.Files.{place, entries}
-use Rattle.map.proofs.Making.{n-most, page-some, place-most, file-written}
-use Rattle.map.proofs.make.Statement.{statement}
-use Rattle.map.proofs.make.Tie as tie
+use Rattle.map.proofs.MadeMaps.{n-most, page-some, place-most, file-written}
+use Rattle.map.proofs.making.make.Statement.{statement}
+use Rattle.map.proofs.making.make.Tie as tie
 
 -- no size test applies
 record Sized (n page : ℕ) (bucket : List ℕ) : Type 0 where

@@ -1,4 +1,4 @@
--- `map::put_two_bytes` meets its contract: two stores are the two bytes.
+-- `map::making::put_two_bytes` meets its contract: two stores are the two bytes.
 -- Assumes nothing.
 use mathlib.Core.Path.{sym, ap, _∙_}
 use Prim.Native.Nat.{ℕ, _/_, _%_}
@@ -8,8 +8,8 @@ use lib.ListN.{length-set, set}
 use borrow.Author.Needs.{needs}
 use Rattle.units.proofs.Writing.{written-sets}
 use Rattle.map.specs.Numbers.{lowBytes}
-use Rattle.map.proofs.put_two_bytes.Statement.{statement}
-use Rattle.map.proofs.put_two_bytes.Tie as tie
+use Rattle.map.proofs.making.put_two_bytes.Statement.{statement}
+use Rattle.map.proofs.making.put_two_bytes.Tie as tie
 
 cast-output : tie.Need-cast-output
 cast-output c = search needs
