@@ -5,10 +5,10 @@ use mathlib.Core.List.{List, [], _∷_}
 use lib.ListN.{length}
 use Rattle.units.specs.Counts.{pagesIn}
 use Rattle.units.specs.Sizes.{nAllowed, pageAllowed, bucketAllowed}
-use Rattle.units.specs.Refusals.{Test, SIZE, PAGE, LONG}
+use Rattle.units.specs.Refusals.{Test, gives, SIZE, PAGE, LONG}
 use Rattle.units.specs.Filling.{Outcome, filling, room}
 use Rattle.signature.specs.Kinds.{wide}
-use Rattle.signature.specs.Operations.{own, gives}
+use Rattle.signature.specs.Operations.{own}
 use Rattle.map.specs.Buckets.{pageAt}
 use Rattle.map.specs.Files.{file, fileBytes}
 use Rattle.map.specs.declared.Header.{Header}

@@ -7,7 +7,7 @@ use lib.ListN.{length}
 use Rattle.units.specs.declared.Verdict.{Verdict}
 use Rattle.units.specs.declared.Verdict.the-variants.{Allowed, Refused}
 use Rattle.units.specs.Sizes.{nAllowed}
-use Rattle.units.specs.Refusals.{Test, first, SIZE, LONG, ODD, MATCH}
+use Rattle.units.specs.Refusals.{Test, first, gives, SIZE, LONG, ODD, MATCH}
 use Rattle.signature.specs.Kinds.{Kind}
 use Rattle.signature.specs.Objects.{symbols}
 use Rattle.signature.specs.Signatures.{signature, joined, edited, handed, answered}
@@ -27,10 +27,6 @@ unless (Refused r) s = Answer.Refused r
 -- the refusal of the first test that applies, and else the signature
 abbrev pub decided : List Test → Signature → Answer
 decided tests s = unless (first tests) s
-
--- a test whose refusal has the value 0
-abbrev pub gives : ℕ → Bool → Test
-gives number applies = record { applies = applies; refusal = record { number = number; value = 0 } }
 
 module _ (K : Kind) where
   -- symbols that an object may have

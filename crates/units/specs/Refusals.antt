@@ -40,6 +40,10 @@ pub record Test : Type 0 where
   pub applies : Bool
   pub refusal : Refusal
 
+-- a test whose refusal has the value 0
+abbrev pub gives : ℕ → Bool → Test
+gives number applies = record { applies = applies; refusal = record { number = number; value = 0 } }
+
 abbrev pub first : List Test → Verdict
 first [] = Allowed
 first (t ∷ ts) = cond (t .applies) (Refused (t .refusal)) (first ts)

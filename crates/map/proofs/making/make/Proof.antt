@@ -14,27 +14,23 @@ use Rattle.units.specs.Sizes.{nAllowed, pageAllowed, bucketAllowed}
 use Rattle.units.specs.Counts.{pagesIn}
 use Rattle.units.specs.declared.Filled.the-variants.{Written, Refused}
 use Rattle.units.specs.declared.Filled.{Filled}
-use Rattle.map.specs.Making.{making, needed, made, madeEntry}
+use Rattle.map.specs.Making.{making, needed, made, madeHeader, madeEntry}
 use Rattle.map.specs.Files.{place, entries}
+use Rattle.map.proofs.Contents.{Sized}
 use Rattle.map.proofs.MadeMaps.{n-most, page-some, place-most, file-written}
 use Rattle.map.proofs.making.make.Statement.{statement}
 use Rattle.map.proofs.making.make.Tie as tie
 
--- no size test applies
-record Sized (n page : ℕ) (bucket : List ℕ) : Type 0 where
-  size : nAllowed n ≡ true
-  paged : pageAllowed page ≡ true
-  long : bucketAllowed (length bucket) (pagesIn page (length bucket)) ≡ true
-
 abbrev start : tie.Else3 → tie.Start
 start c = c .before .before .before .before .before .before .before .before .before
 
-sized : (c : tie.Else3) → Sized (start c .args .n) (start c .args .page .count) (start c .args .bucket .now)
+-- no size test applies
+sized : (c : tie.Else3) → Sized (madeHeader (start c .args .n) (start c .args .page .count) (start c .args .bucket .now))
 sized c =
     record {
-      size = sym (c .before .before .before .before .before .before .n-allowed .ensures) ∙ not-false _ (c .before .before .before .before .before .if1 .left);
-      paged = sym (c .before .before .before .before .page-allowed .ensures) ∙ not-false _ (c .before .before .before .if2 .left);
-      long = ap (bucketAllowed (length (start c .args .bucket .now))) (sym (c .before .before .pages-of .ensures)) ∙ sym (c .before .bucket-allowed .ensures) ∙ not-false _ (c .if3 .left);
+      n-fits = sym (c .before .before .before .before .before .before .n-allowed .ensures) ∙ not-false _ (c .before .before .before .before .before .if1 .left);
+      page-fits = sym (c .before .before .before .before .page-allowed .ensures) ∙ not-false _ (c .before .before .before .if2 .left);
+      bucket-fits = ap (bucketAllowed (length (start c .args .bucket .now))) (sym (c .before .before .pages-of .ensures)) ∙ sym (c .before .bucket-allowed .ensures) ∙ not-false _ (c .if3 .left);
     }
 
 n-allowed-requires : tie.Need-n-allowed-requires
@@ -95,9 +91,9 @@ place-requires : tie.Need-place-requires
 place-requires c κs =
     let pages-of : _ = c .before .before .pages-of in
     let args : _ = c .before .before .before .before .before .before .before .before .before .args in
-    let fits : Sized (args .n) (args .page .count) (args .bucket .now) = sized c in
+    let fits : Sized (madeHeader (args .n) (args .page .count) (args .bucket .now)) = sized c in
     subst (λ (k : ℕ). (args .n ≤ 4) × (place (args .n) k < 18446744073709551616)) (sym (pages-of .ensures))
-    (n-most (args .n) (fits .size), omega (arith, place-most (args .n) (length (args .bucket .now)) (pagesIn (args .page .count) (length (args .bucket .now))) (fits .size) (fits .long)))
+    (n-most (args .n) (fits .n-fits), omega (arith, place-most (args .n) (length (args .bucket .now)) (pagesIn (args .page .count) (length (args .bucket .now))) (fits .n-fits) (fits .bucket-fits)))
 
 refused-requires-4 : tie.Need-refused-requires-4
 refused-requires-4 c κs = search needs
@@ -108,10 +104,10 @@ returns-4 c =
     let pages-of : _ = c .before .before .before .before .before .pages-of in
     let place-here : _ = c .before .before .place in
     let args : _ = c .before .before .before .before .before .before .before .before .before .before .before .before .args in
-    let fits : Sized (args .n) (args .page .count) (args .bucket .now) = sized (c .before .before .before) in
+    let fits : Sized (madeHeader (args .n) (args .page .count) (args .bucket .now)) = sized (c .before .before .before) in
     let room : place-here .result ≡ needed (args .n) (args .page .count) (args .bucket .now) = place-here .ensures ∙ ap (place (args .n)) (pages-of .ensures) in
     let short : length (args .output .now) < needed (args .n) (args .page .count) (args .bucket .now) = omega arith in
-    simp (fits .size, fits .paged, fits .long, lt-ltb _ _ short)
+    simp (fits .n-fits, fits .page-fits, fits .bucket-fits, lt-ltb _ _ short)
     (ap (λ (a : Filled). outcomeOf a (args .output .now)) (c .refused4 .ensures ∙ ap (λ (k : ℕ). Refused (record { number = 7; value = k })) room))
 
 put-header-requires : tie.Need-put-header-requires
@@ -124,9 +120,9 @@ put-entries-requires c κs =
     let if4 : _ = c .before .before .before .before .before .if4 in
     let put-header : _ = c .before .before .before .put-header in
     let args : _ = c .before .before .before .before .before .before .before .before .before .before .before .before .before .before .before .before .args in
-    let fits : Sized (args .n) (args .page .count) (args .bucket .now) = sized (c .before .before .before .before .before .before .before) in
+    let fits : Sized (madeHeader (args .n) (args .page .count) (args .bucket .now)) = sized (c .before .before .before .before .before .before .before) in
     let room : place-here .result ≡ needed (args .n) (args .page .count) (args .bucket .now) = place-here .ensures ∙ ap (place (args .n)) (pages-of .ensures) in
-    (n-most (args .n) (fits .size), page-some (args .page .count) (fits .paged), refl, omega (arith, put-header .kept .1 .0, if4 .left))
+    (n-most (args .n) (fits .n-fits), page-some (args .page .count) (fits .page-fits), refl, omega (arith, put-header .kept .1 .0, if4 .left))
 
 same-length : tie.Need-same-length
 same-length c = search needs
@@ -140,14 +136,14 @@ returns-5 c =
     let put-header : _ = c .before .before .before .before .before .before .put-header in
     let put-entries : _ = c .before .before .put-entries in
     let args : _ = c .before .before .before .before .before .before .before .before .before .before .before .before .before .before .before .before .before .before .before .args in
-    let fits : Sized (args .n) (args .page .count) (args .bucket .now) = sized (c .before .before .before .before .before .before .before .before .before .before) in
+    let fits : Sized (madeHeader (args .n) (args .page .count) (args .bucket .now)) = sized (c .before .before .before .before .before .before .before .before .before .before) in
     let room : place-here .result ≡ needed (args .n) (args .page .count) (args .bucket .now) = place-here .ensures ∙ ap (place (args .n)) (pages-of .ensures) in
     let enough : needed (args .n) (args .page .count) (args .bucket .now) ≤ length (args .output .now) = omega (arith, if4 .left) in
     let entries-put : put-entries .last .1 .1 .0 ≡ written (args .output .now) 0 (made (args .n) (args .page .count) (args .bucket .now)) =
     put-entries .ensures ∙ ap (λ (l : List ℕ). written l 18
     (entries (madeEntry (args .n) (args .page .count) (args .bucket .now)) 0 (pagesIn (args .page .count) (length (args .bucket .now))))) (put-header .ensures)
     ∙ file-written (args .n) (args .page .count) (args .bucket .now) (args .output .now) enough in
-    simp (fits .size, fits .paged, fits .long, le-ltb _ _ enough) (ap₂ (λ (k : ℕ) (l : List ℕ). outcomeOf (Written (record { count = k })) l) room entries-put)
+    simp (fits .n-fits, fits .page-fits, fits .bucket-fits, le-ltb _ _ enough) (ap₂ (λ (k : ℕ) (l : List ℕ). outcomeOf (Written (record { count = k })) l) room entries-put)
 
 pub make-spec : {M : Type 1} → statement M
 make-spec =
