@@ -10,12 +10,14 @@ use lib.ListN.{length}
 use Rattle.units.specs.Writing.{written, Put, putOf, put}
 use Rattle.units.proofs.Writing.{written-none}
 use Rattle.signature.specs.Signatures.{handed}
+use Rattle.map.specs.Reading.{entryAt}
 use Rattle.map.specs.Files.{pages}
 use Rattle.map.specs.Numbers.{endToEnd}
 use Rattle.map.proofs.MadeMaps.{entry-inside}
 use Rattle.map.proofs.Runs.{run-step, run-more, run-none}
 use Rattle.listing.specs.Lines.{pageLine, lineOf}
-use Rattle.listing.proofs.Pages.{entry-line}
+use Rattle.listing.proofs.Pages.{entry-line, entry-line-length}
+use Rattle.listing.proofs.Lengths.{page-line-length}
 use Rattle.listing.proofs.put_page_lines.Statement.{statement}
 use Rattle.listing.proofs.put_page_lines.Tie as tie
 
@@ -53,7 +55,8 @@ put-page-line-requires c κs =
     let m : ℕ = pages-here .result - (at .k + 1) in
     let up : pages-here .result - at .k ≡ suc m = omega arith in
     let line : length (pageLine (c .before .entry-at .result .signature .n) (at .k) (handed (c .before .entry-at .result .signature))) ≡ length (f (at .k)) =
-    ap length (entry-line (args .h .n) (args .map .now) (at .k) (c .before .entry-at .result) (c .before .entry-at .ensures)) in
+    entry-line-length (args .h .n) (args .map .now) (at .k) _ (c .before .entry-at .result) (c .before .entry-at .ensures)
+    ∙ sym (page-line-length (args .h .n) (at .k) (handed (entryAt (args .h .n) (args .map .now) (at .k) .signature))) in
     let more : length (endToEnd f (at .k) (pages-here .result - at .k)) ≡ length (f (at .k)) + length (endToEnd f (suc (at .k)) m) =
     ap (λ (i : ℕ). length (endToEnd f (at .k) i)) up ∙ run-more f m (at .k) in
     let next : at .to + length (endToEnd f (at .k) (pages-here .result - at .k)) ≡ args .at + length (endToEnd f 0 (pages-here .result)) = ap (λ (p : Put). p .next) (at .inv .0) in
