@@ -7,7 +7,6 @@ ghost use Rattle.units.specs.Writing.{written, putOf, put};
 ghost use Rattle.units.specs.Filling.{outcomeOf};
 ghost use Rattle.signature.specs.Signatures.{handed};
 ghost use Rattle.map.specs.Numbers.{endToEnd};
-ghost use Rattle.map.specs.Files.{place, entryBytes};
 ghost use Rattle.map.specs.Files.{pages as Header·pages};
 ghost use Rattle.listing.specs.Digits.{digits, decimal};
 ghost use Rattle.listing.specs.Digits.{digit as Digits·digit, width as Digits·width};
@@ -145,7 +144,7 @@ fn put_page_line(k: usize, s: Signature, output: &mut [u8], at: usize) -> usize
 
 // A line for each page, in page order.
 fn put_page_lines(h: Header, map: &[u8], output: &mut [u8], at: usize)
-    requires { ⌜ (h .n ≤ 4) × (place (h .n) (Header·pages h) ≤ length (now map)) × (at + length (endToEnd (lineOf (h .n) (now map)) 0 (Header·pages h)) ≤ length (now output)) ⌝ }
+    requires { ⌜ at + length (endToEnd (lineOf (h .n) (now map)) 0 (Header·pages h)) ≤ length (now output) ⌝ }
     ensures { λ _. ⌜ now (output .exit) ≡ written (now (output .entry)) at (endToEnd (lineOf (h .n) (now (map .entry))) 0 (Header·pages h)) ⌝ }
 {
     let n = h.n;
@@ -183,7 +182,7 @@ fn page_lines_bytes(h: Header) -> usize
 
 // The listing of a map that holds what its header says.
 fn list_held(h: Header, map: &[u8], output: &mut [u8]) -> Filled
-    requires { ⌜ (h .n ≤ 4) × (Header·pages h ≤ 4096) × (place (h .n) (Header·pages h) ≤ length (now map)) ⌝ }
+    requires { ⌜ (h .n ≤ 4) × (Header·pages h ≤ 4096) ⌝ }
     ensures { λ r. ⌜ outcomeOf r (now (output .exit)) ≡ textOut (listed (now (map .entry)) (Reading.Holds h)) (now (output .entry)) ⌝ }
 {
     let needed = header_line_bytes(h) + page_lines_bytes(h);

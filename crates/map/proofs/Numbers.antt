@@ -1,12 +1,14 @@
 -- Numbers of several bytes, low byte first: how they are put together, and that reading and writing them undo each other.
 -- Assumes nothing.
 use mathlib.Core.Path.{_≡_, refl, sym, ap, ap₂, _∙_}
+use mathlib.Core.Logic.{dite}
 use mathlib.Core.List.{List, _∷_, _++_}
-use Prim.Native.Nat.{ℕ, zero, suc, _+_, _*_, _/_, _%_, _^_, _≤_, _<_}
-use native.Mathlib.Nat.{add-zero, add-suc, pow-suc, div-div-eq-div-mul}
+use Prim.Native.Nat.{ℕ, zero, suc, _+_, _*_, _/_, _%_, _^_, _≤_, _<_, min}
+use native.Mathlib.Nat.{add-zero, add-suc, pow-suc, div-div-eq-div-mul, add-assoc}
 use native.Mathlib.Numerals.{add-one}
+use native.Mathlib.Decide.{decLt}
 use native.Mathlib.Omega.{arith}
-use lib.ListN.{length, getD, take, drop}
+use lib.ListN.{length, getD, take, drop, List·getD-eq-default}
 use lib.Seq.{drop-cons, getD-drop, drop-append-seam}
 use Rattle.signature.specs.Objects.{Octets, lowFirst}
 use Rattle.map.specs.Numbers.{lowBytes}
@@ -37,6 +39,30 @@ low-first-drop (suc size) bytes at i =
 pub low-first-after : (size : ℕ) (front rest : List ℕ) (i : ℕ) → lowFirst size (front ++ rest) (length front + i) ≡ lowFirst size rest i
 low-first-after size front rest i =
     low-first-drop size (front ++ rest) (length front) i ∙ ap (λ (l : List ℕ). lowFirst size l i) (drop-append-seam front rest)
+
+-- past the end there are zeros, wherever one looks
+past-end : (bytes : List ℕ) (at i : ℕ) → getD bytes (min at (length bytes) + i) 0 ≡ getD bytes (at + i) 0
+past-end bytes at i =
+    dite (decLt (length bytes) at)
+    (λ (past : length bytes < at).
+    let one : length bytes ≤ min at (length bytes) + i = omega arith in
+    let other : length bytes ≤ at + i = omega arith in
+    List·getD-eq-default bytes 0 one ∙ sym (List·getD-eq-default bytes 0 other))
+    (λ inside. let same : min at (length bytes) ≡ at = omega arith in ap (λ (k : ℕ). getD bytes (k + i) 0) same)
+
+pub byte-within : (bytes : List ℕ) (at : ℕ) → getD bytes (min at (length bytes)) 0 ≡ getD bytes at 0
+byte-within bytes at =
+    ap (λ (k : ℕ). getD bytes k 0) (sym (add-zero (min at (length bytes)))) ∙ past-end bytes at 0 ∙ ap (λ (k : ℕ). getD bytes k 0) (add-zero at)
+
+pub two-bytes-within : (bytes : List ℕ) (at i : ℕ) → lowFirst 2 bytes (min at (length bytes) + 1 + i) ≡ lowFirst 2 bytes (at + 1 + i)
+two-bytes-within bytes at i =
+    let low : getD bytes (min at (length bytes) + 1 + i) 0 ≡ getD bytes (at + 1 + i) 0 =
+    ap (λ (k : ℕ). getD bytes k 0) (add-assoc (min at (length bytes)) 1 i) ∙ past-end bytes at (1 + i) ∙ ap (λ (k : ℕ). getD bytes k 0) (sym (add-assoc at 1 i)) in
+    let near : min at (length bytes) + 1 + i + 1 ≡ min at (length bytes) + (2 + i) = omega arith in
+    let far : at + (2 + i) ≡ at + 1 + i + 1 = omega arith in
+    let high : getD bytes (min at (length bytes) + 1 + i + 1) 0 ≡ getD bytes (at + 1 + i + 1) 0 =
+    ap (λ (k : ℕ). getD bytes k 0) near ∙ past-end bytes at (2 + i) ∙ ap (λ (k : ℕ). getD bytes k 0) far in
+    two-bytes bytes (min at (length bytes) + 1 + i) ∙ ap₂ (λ (x y : ℕ). x + y * 256) low high ∙ sym (two-bytes bytes (at + 1 + i))
 
 -- ---- writing
 

@@ -2,14 +2,15 @@
 -- Assumes nothing.
 use mathlib.Core.Path.{_≡_, sym, ap, _∙_}
 use mathlib.Core.List.{List, _∷_, _++_}
-use Prim.Native.Nat.{ℕ, suc, _+_, _*_, _≤_}
+use Prim.Native.Nat.{ℕ, suc, _+_, _*_, _≤_, _<_}
 use native.Mathlib.Omega.{arith}
 use lib.ListN.{length, length-append}
+use borrow.Author.Tests.{le-leb, lt-leb}
 use Rattle.units.specs.Writing.{written}
 use Rattle.units.proofs.Writing.{written-append}
 use Rattle.signature.specs.Signatures.{handed}
 use Rattle.map.specs.Numbers.{lowBytes}
-use Rattle.map.specs.Files.{tagged, header, components, entry, entryBytes}
+use Rattle.map.specs.Files.{tagged, header, components, entry, entryPut, entryBytes, place}
 use Rattle.map.specs.declared.Header.{Header}
 use Rattle.map.specs.declared.Entry.{Entry}
 use Rattle.map.proofs.Numbers.{low-bytes-length}
@@ -56,3 +57,13 @@ unfolding entry
 entry-length e =
     let value : List ℕ = components (e .signature .n) (handed (e .signature)) in
     omega (arith, tagged-length (e .tag) value, components-length (e .signature .n) (handed (e .signature)))
+
+-- an entry written over, where the map has room for it and where it has none
+module _ (e : Entry) (map : List ℕ) (k : ℕ) where
+  pub entry-put : place (e .signature .n) k + entryBytes (e .signature .n) ≤ length map → entryPut e map k ≡ written map (place (e .signature .n) k) (entry e)
+  unfolding entryPut
+  entry-put fits = simp (le-leb _ _ fits)
+
+  pub entry-not-put : length map < place (e .signature .n) k + entryBytes (e .signature .n) → entryPut e map k ≡ map
+  unfolding entryPut
+  entry-not-put short = simp (lt-leb _ _ short)

@@ -1,8 +1,11 @@
 -- The map file as bytes, from its header and its entries by page number. An entry is its tag and its components.
 use Prim.Native.Nat.{ℕ, _+_, _*_}
+use mathlib.Core.Bool.{cond}
 use mathlib.Core.List.{List, _∷_, _++_}
+use lib.Dec.{leb}
 use lib.ListN.{length}
 use Rattle.units.specs.Counts.{pagesIn}
+use Rattle.units.specs.Writing.{written}
 use Rattle.signature.specs.Signatures.{handed}
 use Rattle.map.specs.Numbers.{lowBytes, endToEnd}
 use Rattle.map.specs.declared.Header.{Header}
@@ -47,3 +50,8 @@ place n k = headerBytes + k * entryBytes n
 -- the length of a file, by its page count
 abbrev pub fileBytes : ℕ → ℕ → ℕ
 fileBytes n pages = place n pages
+
+-- a map with the entry of page k written over; where it has no room for one, as it was
+unfoldable pub entryPut : Entry → List ℕ → ℕ → List ℕ
+entryPut e map k =
+    cond (leb (place (e .signature .n) k + entryBytes (e .signature .n)) (length map)) (written map (place (e .signature .n) k) (entry e)) map

@@ -6,12 +6,11 @@ pub use making::make;
 pub use making::page_at;
 pub use making::put_entry;
 ghost use mathlib.Core.Path.{_≡_};
-ghost use Prim.Native.Nat.{_+_, _*_, _^_, _<_, _≤_};
+ghost use Prim.Native.Nat.{_+_, _*_, _≤_, min};
 ghost use lib.ListN.{length};
 ghost use Rattle.units.specs.Refusals.{first};
 ghost use Rattle.signature.specs.Objects.{lowFirst};
 ghost use Rattle.signature.specs.Signatures.{upTo};
-ghost use Rattle.map.specs.Files.{entryBytes};
 ghost use Rattle.map.specs.Files.{pages as Header·pages, place as File·place};
 ghost use Rattle.map.specs.Reading.{fieldAt, underRule, long, isDue, headerOf, headerTests, entryTests, told, reading, entryAt, nKept, pageKept, bucketKept};
 use signature::Signature;
@@ -211,14 +210,13 @@ pub fn read(map: &[u8]) -> Reading
     }
 }
 
-// The entry of page k, in a map of n components.
+// The entry of page k, in a map of n components. Past the map's end there are zeros.
 pub fn entry_at(n: usize, map: &[u8], k: usize) -> Entry
-    requires { ⌜ (n ≤ 4) × (File·place n k + entryBytes n ≤ length (now map)) ⌝ }
     ensures { λ r. ⌜ r ≡ entryAt n (now (map .entry)) k ⌝ }
 {
-    let at = place(n, k);
+    let at = place_within(n, k, map.len());
     Entry {
-        tag: map[at],
+        tag: signature::byte(map, Bytes { count: at }),
         signature: Signature {
             n,
             s1: component_at(n, 1, map, at),
@@ -229,22 +227,38 @@ pub fn entry_at(n: usize, map: &[u8], k: usize) -> Entry
     }
 }
 
-// Where the entry of page k begins.
-fn place(n: usize, k: usize) -> usize
-    requires { ⌜ (n ≤ 4) × (File·place n k < 2 ^ 64) ⌝ }
-    ensures { λ r. ⌜ r ≡ File·place n k ⌝ }
+// Where the entry of page k begins, or `most` where that is past it. No product wraps on the way.
+fn place_within(n: usize, k: usize, most: usize) -> usize
+    ensures { λ r. ⌜ r ≡ min (File·place n k) most ⌝ }
 {
-    18 + k * (3 + 2 * n)
+    if most < 18 {
+        return most;
+    }
+    if k == 0 {
+        return 18;
+    }
+    let room = most - 18;
+    if n > room / 2 {
+        return most;
+    }
+    let size = 3 + 2 * n;
+    if k > room / size {
+        return most;
+    }
+    18 + k * size
 }
 
 // Component j of the entry at a place; zero above n.
 fn component_at(n: usize, j: usize, map: &[u8], at: usize) -> u16
-    requires { ⌜ at + entryBytes n ≤ length (now map) ⌝ }
+    requires { ⌜ (j ≤ 4) × (at ≤ length (now map)) ⌝ }
     ensures { λ r. ⌜ r ≡ upTo n j (lowFirst 2 (now (map .entry)) (at + 1 + 2 * j)) ⌝ }
 {
     if n < j {
-        0
-    } else {
-        two_bytes(map, at + 1 + 2 * j) as u16
+        return 0;
     }
+    let first = at + 1 + 2 * j;
+    let second = first + 1;
+    let low = signature::byte(map, Bytes { count: first }) as u16;
+    let high = signature::byte(map, Bytes { count: second }) as u16;
+    low + high * 256
 }

@@ -8,24 +8,29 @@ ghost use Rattle.units.specs.Filling.{outcomeOf};
 ghost use Rattle.signature.specs.Signatures.{handed};
 ghost use Rattle.map.specs.Numbers.{lowBytes};
 ghost use Rattle.map.specs.Buckets.{pageAt};
-ghost use Rattle.map.specs.Files.{tagged, entries, entryBytes, fileBytes};
-ghost use Rattle.map.specs.Files.{header as File·header, components as File·components, entry as File·entry, pages as Header·pages, place as File·place};
+ghost use Rattle.map.specs.Files.{tagged, entries, entryPut, fileBytes};
+ghost use Rattle.map.specs.Files.{header as File·header, components as File·components, entry as File·entry, pages as Header·pages};
 ghost use Rattle.map.specs.Making.{madeEntry, making};
 use crate::Entry;
 use crate::Header;
 use crate::pages;
-use crate::place;
+use crate::place_within;
 use signature::Signature;
 use units::Bytes;
 use units::Filled;
 use units::Refusal;
 
-// Page k of a bucket.
+// Page k of a bucket. Past the bucket's end it is empty.
 pub fn page_at<'a>(page: Bytes, bucket: &'a [u8], k: usize) -> &'a [u8]
-    requires { ⌜ k * page .count ≤ length (now bucket) ⌝ }
     ensures { λ r. ⌜ now r ≡ pageAt (page .count) (now (bucket .entry)) k ⌝ }
 {
     let size = page.count;
+    if size == 0 {
+        return &bucket[..0];
+    }
+    if k > bucket.len() / size {
+        return &bucket[..0];
+    }
     let start = k * size;
     if size < bucket.len() - start {
         let end = start + size;
@@ -105,20 +110,25 @@ fn put_components(s: Signature, output: &mut [u8], at: usize)
     }
 }
 
-// The entry of page k, written over what stood there.
+// The entry of page k, written over what stood there. Where the map has no room for one it stays as it was.
 pub fn put_entry(e: Entry, map: &mut [u8], k: usize)
-    requires { ⌜ (e .signature .n ≤ 4) × (File·place (e .signature .n) k + entryBytes (e .signature .n) ≤ length (now map)) ⌝ }
-    ensures { λ _. ⌜ now (map .exit) ≡ written (now (map .entry)) (File·place (e .signature .n) k) (File·entry e) ⌝ }
+    ensures { λ _. ⌜ now (map .exit) ≡ entryPut e (now (map .entry)) k ⌝ }
 {
     let s = e.signature;
-    let at = place(s.n, k);
+    let at = place_within(s.n, k, map.len());
+    let room = map.len() - at;
+    if room < 3 {
+        return;
+    }
+    if s.n > (room - 3) / 2 {
+        return;
+    }
     put_tag(e.tag, 2 * s.n, map, at);
     put_components(s, map, at + 3);
 }
 
 // The entry that a map made from the bucket has for page k.
 fn made_entry(h: Header, bucket: &[u8], k: usize) -> Entry
-    requires { ⌜ k * h .page .count ≤ length (now bucket) ⌝ }
     ensures { λ r. ⌜ r ≡ madeEntry (h .n) (h .page .count) (now (bucket .entry)) k ⌝ }
 {
     Entry {
@@ -128,7 +138,7 @@ fn made_entry(h: Header, bucket: &[u8], k: usize) -> Entry
 }
 
 fn put_entries(h: Header, bucket: &[u8], output: &mut [u8])
-    requires { ⌜ (h .n ≤ 4) × (1 ≤ h .page .count) × (h .bucket .count ≡ length (now bucket)) × (fileBytes (h .n) (Header·pages h) ≤ length (now output)) ⌝ }
+    requires { ⌜ fileBytes (h .n) (Header·pages h) ≤ length (now output) ⌝ }
     ensures { λ _. ⌜ now (output .exit) ≡ written (now (output .entry)) 18 (entries (madeEntry (h .n) (h .page .count) (now (bucket .entry))) 0 (Header·pages h)) ⌝ }
 {
     let count = pages(h);
@@ -156,7 +166,7 @@ pub fn make(n: usize, page: Bytes, bucket: &[u8], output: &mut [u8]) -> Filled
     if !units::bucket_allowed(all, count) {
         return units::refused(Refusal::LONG, 0);
     }
-    let needed = place(n, count);
+    let needed = 18 + count * (3 + 2 * n);
     if output.len() < needed {
         return units::refused(Refusal::ROOM, needed);
     }

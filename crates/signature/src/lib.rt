@@ -200,7 +200,7 @@ fn symbol(object: &[u8], at: Symbols) -> u16
 }
 
 // The byte at a place, and zero past the end.
-fn byte(object: &[u8], at: Bytes) -> u8
+pub fn byte(object: &[u8], at: Bytes) -> u8
     ensures { λ r. ⌜ r ≡ getD (now (object .entry)) (at .count) 0 ⌝ }
 {
     let i = at.count;

@@ -3,13 +3,12 @@
 use mathlib.Core.Path.{_≡_, sym, ap, _∙_}
 use mathlib.Core.List.{List}
 use Prim.Native.Nat.{ℕ}
-use native.Mathlib.Nat.{le-of-eq}
 use borrow.Author.Needs.{needs}
 use Rattle.map.specs.Files.{pages}
 use Rattle.map.specs.Reading.{reading}
 use Rattle.map.specs.declared.Reading.the-variants.{Holds}
 use Rattle.map.specs.declared.Reading.{Reading}
-use Rattle.map.proofs.Holding.{holds-sized, holds-length}
+use Rattle.map.proofs.Holding.{holds-sized}
 use Rattle.map.proofs.Contents.{Sized}
 use Rattle.map.proofs.MadeMaps.{n-most, pages-most}
 use Rattle.listing.specs.Lines.{listed, listing, textOut}
@@ -34,7 +33,7 @@ list-held-requires c κs =
     let h : _ = c .before .before .reading2 .given .0 .0 in
     let is : reading bytes ≡ Holds h = sym (c .before .before .before .before .read .ensures) ∙ c .before .before .reading2 .given .1 in
     let ok : Sized h = holds-sized bytes h is in
-    (n-most (h .n) (ok .n-fits), pages-most (h .bucket .count) (pages h) (ok .bucket-fits), le-of-eq (sym (holds-length bytes h is)))
+    (n-most (h .n) (ok .n-fits), pages-most (h .bucket .count) (pages h) (ok .bucket-fits))
 
 same-length : tie.Need-same-length
 same-length c = search needs

@@ -53,18 +53,15 @@ put-header-line-requires c κs = search needs
 
 put-page-lines-requires : tie.Need-put-page-lines-requires
 put-page-lines-requires c κs =
-    let args : _ = c .before .before .before .before .before .before .before .before .before .before .args in (
-      c .before .before .before .before .before .before .before .before .before .before .pre .0,
-      c .before .before .before .before .before .before .before .before .before .before .pre .2,
-      omega (
-        arith,
-        c .before .before .before .before .before .before .before .header-line-bytes .ensures,
-        c .before .before .before .before .before .before .page-lines-bytes .ensures,
-        lines-bytes (args .h .n) (args .map .now) (pages (args .h)),
-        put-next _ _ _ _ _ (c .before .before .before .put-header-line .ensures),
-        c .before .before .before .put-header-line .kept .1 .0,
-        c .before .before .before .before .before .if1 .left,
-      ),
+    let args : _ = c .before .before .before .before .before .before .before .before .before .before .args in
+    omega (
+      arith,
+      c .before .before .before .before .before .before .before .header-line-bytes .ensures,
+      c .before .before .before .before .before .before .page-lines-bytes .ensures,
+      lines-bytes (args .h .n) (args .map .now) (pages (args .h)),
+      put-next _ _ _ _ _ (c .before .before .before .put-header-line .ensures),
+      c .before .before .before .put-header-line .kept .1 .0,
+      c .before .before .before .before .before .if1 .left,
     )
 
 same-length : tie.Need-same-length

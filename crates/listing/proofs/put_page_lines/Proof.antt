@@ -2,7 +2,7 @@
 -- Assumes nothing.
 use mathlib.Core.Path.{_≡_, refl, sym, ap, ap₂, _∙_}
 use mathlib.Core.List.{List, []}
-use Prim.Native.Nat.{ℕ, suc, _+_, _-_, _≤_, _<_}
+use Prim.Native.Nat.{ℕ, suc, _+_, _-_, _≤_}
 use native.Mathlib.Nat.{sub-zero}
 use native.Mathlib.Numerals.{add-one}
 use native.Mathlib.Omega.{arith}
@@ -13,7 +13,6 @@ use Rattle.signature.specs.Signatures.{handed}
 use Rattle.map.specs.Reading.{entryAt}
 use Rattle.map.specs.Files.{pages}
 use Rattle.map.specs.Numbers.{endToEnd}
-use Rattle.map.proofs.MadeMaps.{entry-inside}
 use Rattle.map.proofs.Runs.{run-step, run-more, run-none}
 use Rattle.listing.specs.Lines.{pageLine, lineOf}
 use Rattle.listing.proofs.Pages.{entry-line, entry-line-length}
@@ -38,12 +37,7 @@ loop-holds c =
     (ap (λ (m : ℕ). put (args .output .now) (args .at) (endToEnd (lineOf (args .h .n) (args .map .now)) 0 m)) (sub-zero (c .pages .result)), refl, omega arith)
 
 entry-at-requires : tie.Need-entry-at-requires Inv-loop μ-loop
-entry-at-requires c κs =
-    let required : _ = c .before .before .before .before .before .pre in
-    let pages-here : _ = c .before .before .pages in
-    let args : _ = c .before .before .before .before .before .args in
-    let inside : c .before .loop .k < pages (args .h) = omega (arith, pages-here .ensures) in
-    (required .0, omega (arith, entry-inside (args .h .n) (c .before .loop .k) (pages (args .h)) inside, required .1))
+entry-at-requires c κs = tt
 
 put-page-line-requires : tie.Need-put-page-line-requires Inv-loop μ-loop
 put-page-line-requires c κs =
@@ -61,7 +55,7 @@ put-page-line-requires c κs =
     ap (λ (i : ℕ). length (endToEnd f (at .k) i)) up ∙ run-more f m (at .k) in
     let next : at .to + length (endToEnd f (at .k) (pages-here .result - at .k)) ≡ args .at + length (endToEnd f 0 (pages-here .result)) = ap (λ (p : Put). p .next) (at .inv .0) in
     let long : at .to + length (f (at .k)) ≤ length (at .output) =
-    omega (arith, ap (λ (i : ℕ). length (endToEnd f 0 i)) (pages-here .ensures), required .2, at .inv .1) in
+    omega (arith, ap (λ (i : ℕ). length (endToEnd f 0 i)) (pages-here .ensures), required, at .inv .1) in
     omega (arith, line, long)
 
 add-k : tie.Need-add-k Inv-loop μ-loop
@@ -84,7 +78,7 @@ loop-again c =
     let next : at .to + length (endToEnd f (at .k) (pages-here .result - at .k)) ≡ args .at + length (endToEnd f 0 (pages-here .result)) = ap (λ (p : Put). p .next) (at .inv .0) in
     let same : length (endToEnd f (at .k) (pages-here .result - at .k)) ≡ length (endToEnd f (at .k) (suc m)) = ap (λ (i : ℕ). length (endToEnd f (at .k) i)) up in
     let fits : at .to + length (endToEnd f (at .k) (suc m)) ≤ length (at .output) =
-    omega (arith, ap (λ (i : ℕ). length (endToEnd f 0 i)) (pages-here .ensures), required .2, at .inv .1) in
+    omega (arith, ap (λ (i : ℕ). length (endToEnd f 0 i)) (pages-here .ensures), required, at .inv .1) in
     let here : putOf (put-page-line .last .1 .1 .0) (put-page-line .result) ≡ put (at .output) (at .to) (f (at .k)) =
     put-page-line .ensures ∙ ap (put (at .output) (at .to)) (entry-line (args .h .n) (args .map .now) (at .k) (entry-at .result) (entry-at .ensures)) in (
       ap₂ (λ (p : Put) (i : ℕ). put (p .buffer) (p .next) (endToEnd f i m)) here (add-one (at .k))
@@ -108,7 +102,7 @@ returns c =
     let none : pages-here .result - at .k ≡ 0 = omega arith in
     let end : endToEnd f (at .k) (pages-here .result - at .k) ≡ [] = ap (endToEnd f (at .k)) none ∙ run-none f (at .k) in
     let next : at .to + length (endToEnd f (at .k) (pages-here .result - at .k)) ≡ args .at + length (endToEnd f 0 (pages-here .result)) = ap (λ (p : Put). p .next) (at .inv .0) in
-    let inside : at .to ≤ length (at .output) = omega (arith, ap length end, ap (λ (i : ℕ). length (endToEnd f 0 i)) (pages-here .ensures), required .2, at .inv .1) in
+    let inside : at .to ≤ length (at .output) = omega (arith, ap length end, ap (λ (i : ℕ). length (endToEnd f 0 i)) (pages-here .ensures), required, at .inv .1) in
     sym (written-none (at .output) (at .to) inside)
     ∙ ap (written (at .output) (at .to)) (sym end)
     ∙ ap (λ (p : Put). p .buffer) (at .inv .0)

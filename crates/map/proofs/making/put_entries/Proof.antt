@@ -8,14 +8,14 @@ use native.Mathlib.Numerals.{add-one}
 use native.Mathlib.Omega.{arith}
 use lib.ListN.{length}
 use Rattle.units.specs.Writing.{written}
-use Rattle.units.proofs.Pieces.{piece-holds}
 use Rattle.units.proofs.Writing.{written-none}
 use Rattle.map.specs.Making.{madeEntry}
-use Rattle.map.specs.Files.{pages, place, entry, entryBytes}
+use Rattle.map.specs.Files.{pages, place, entry, entryPut, entryBytes}
 use Rattle.map.specs.Numbers.{endToEnd}
 use Rattle.map.specs.declared.Entry.{Entry}
 use Rattle.map.proofs.MadeMaps.{made-n, made-length, next-place, entry-inside}
 use Rattle.map.proofs.Runs.{run-turn, run-none}
+use Rattle.map.proofs.Tagging.{entry-put}
 use Rattle.map.proofs.making.put_entries.Statement.{statement}
 use Rattle.map.proofs.making.put_entries.Tie as tie
 
@@ -44,25 +44,10 @@ loop-holds c =
     )
 
 made-entry-requires : tie.Need-made-entry-requires Inv-loop μ-loop
-made-entry-requires c κs =
-    let required : _ = c .before .before .before .before .before .pre in
-    let args : _ = c .before .before .before .before .before .args in
-    let inside : c .before .loop .k < pages (args .h) = omega arith in
-    let in-bucket : c .before .loop .k * args .h .page .count < args .h .bucket .count =
-    piece-holds (args .h .page .count) (args .h .bucket .count) (required .1) (c .before .loop .k) inside in
-    omega (arith, required .2)
+made-entry-requires c κs = tt
 
 put-entry-requires : tie.Need-put-entry-requires Inv-loop μ-loop
-put-entry-requires c κs =
-    let required : _ = c .before .before .before .before .before .before .before .pre in
-    let loop : _ = c .before .before .before .loop in
-    let args : _ = c .before .before .before .before .before .before .before .args in
-    let k : ℕ = loop .k in
-    let n : c .before .made-entry .result .signature .n ≡ args .h .n =
-    ap (λ (e : Entry). e .signature .n) (c .before .made-entry .ensures) ∙ made-n (args .h .n) (args .h .page .count) (args .bucket .now) _ in
-    let below : k < pages (args .h) = omega arith in
-    let fits : place (args .h .n) k + entryBytes (args .h .n) ≤ length (loop .output) = omega (arith, entry-inside (args .h .n) k (pages (args .h)) below, required .3) in
-    subst (λ (m : ℕ). (m ≤ 4) × (place m k + entryBytes m ≤ length (loop .output))) (sym n) (required .0, fits)
+put-entry-requires c κs = tt
 
 add-k : tie.Need-add-k Inv-loop μ-loop
 add-k c = omega arith
@@ -83,14 +68,21 @@ loop-again c =
     let f : ℕ → List ℕ = λ i. entry (made i) in
     let m : ℕ = pages-here .result - (at .k + 1) in
     let last : List ℕ = put-entry .last .1 .0 in
+    let whole-n : made (at .k) .signature .n ≡ n = made-n n (args .h .page .count) (args .bucket .now) (at .k) in
+    let below : at .k < pages (args .h) = omega arith in
+    let inside : place n (at .k) + entryBytes n ≤ length (at .output) = omega (arith, entry-inside n (at .k) (pages (args .h)) below, required) in
+    let room : place (made (at .k) .signature .n) (at .k) + entryBytes (made (at .k) .signature .n) ≤ length (at .output) =
+    subst (λ (i : ℕ). place i (at .k) + entryBytes i ≤ length (at .output)) (sym whole-n) inside in
     let put : last ≡ written (at .output) (place n (at .k)) (f (at .k)) =
-    put-entry .ensures ∙ ap (λ (e : Entry). written (at .output) (place (e .signature .n) (at .k)) (entry e)) (made-entry .ensures)
-    ∙ ap (λ (i : ℕ). written (at .output) (place i (at .k)) (f (at .k))) (made-n n (args .h .page .count) (args .bucket .now) (at .k)) in
+    put-entry .ensures
+    ∙ ap (λ (e : Entry). entryPut e (at .output) (at .k)) (made-entry .ensures)
+    ∙ entry-put (made (at .k)) (at .output) (at .k) room
+    ∙ ap (λ (i : ℕ). written (at .output) (place i (at .k)) (f (at .k))) whole-n in
     let up : suc m ≡ pages-here .result - at .k = omega arith in
     let whole : at .k + suc m ≡ pages (args .h) = omega arith in
     let split : (at .k + suc m) * entryBytes n ≡ at .k * entryBytes n + suc m * entryBytes n = add-mul (at .k) (suc m) (entryBytes n) in
     let same : place n (at .k + suc m) ≡ place n (pages (args .h)) = ap (place n) whole in
-    let fits : place n (at .k) + suc m * entryBytes n ≤ length (at .output) = omega (arith, required .3) in
+    let fits : place n (at .k) + suc m * entryBytes n ≤ length (at .output) = omega (arith, required) in
     let turn : written (written (at .output) (place n (at .k)) (f (at .k))) (place n (at .k) + entryBytes n) (endToEnd f (suc (at .k)) m) ≡ written (at .output) (place n (at .k))
     (endToEnd f (at .k) (suc m)) = run-turn f (entryBytes n) (made-length n (args .h .page .count) (args .bucket .now)) (at .output) (place n (at .k)) m (at .k) fits in (
       ap₂ (λ (l : List ℕ) (j : ℕ). written l (place n j) (endToEnd f j m)) put (add-one (at .k))
@@ -115,7 +107,7 @@ returns c =
     let f : ℕ → List ℕ = λ i. entry (madeEntry (args .h .n) (args .h .page .count) (args .bucket .now) i) in
     let end : at .k ≡ pages (args .h) = omega arith in
     let none : pages-here .result - at .k ≡ 0 = omega arith in
-    let inside : place (args .h .n) (at .k) ≤ length (at .output) = omega (arith, ap (place (args .h .n)) end, required .3) in
+    let inside : place (args .h .n) (at .k) ≤ length (at .output) = omega (arith, ap (place (args .h .n)) end, required) in
     sym (written-none (at .output) (place (args .h .n) (at .k)) inside) ∙ ap (written (at .output) (place (args .h .n) (at .k))) (sym (run-none f (at .k)))
     ∙ ap (λ (m : ℕ). written (at .output) (place (args .h .n) (at .k)) (endToEnd f (at .k) m)) (sym none) ∙ at .inv .0
 
