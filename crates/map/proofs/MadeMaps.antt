@@ -44,9 +44,6 @@ entry-inside n k pages below =
 pub n-most : (n : ℕ) → nAllowed n ≡ true → n ≤ 4
 n-most n e = leb-true _ _ (halves (leb 1 n) _ e .1)
 
-pub page-some : (page : ℕ) → pageAllowed page ≡ true → 1 ≤ page
-page-some page e = omega (arith, leb-true 2 page (halves (eqb (page % 2) 0) _ (halves (eqb (page % 2) 0 && leb 2 page) _ e .0) .1))
-
 pub page-most : (page : ℕ) → pageAllowed page ≡ true → page ≤ 65536
 page-most page e = leb-true _ _ (halves (eqb (page % 2) 0 && leb 2 page) _ e .1)
 

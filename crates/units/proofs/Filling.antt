@@ -16,7 +16,7 @@ use Rattle.units.specs.declared.Refusal.{Refusal}
 use Rattle.units.specs.declared.Verdict.{Verdict}
 use Rattle.units.specs.declared.Verdict.the-variants.{Allowed, Refused}
 use Rattle.units.proofs.Refusing.{Lowest, ascending, lowest-given, allowed-not-refused}
-use Rattle.units.proofs.Writing.{written-length, written-inside, written-after}
+use Rattle.units.proofs.Writing.{written-inside, written-after}
 
 module _ (size : ℕ) (new output : List ℕ) where
   told-outcome : (v : Verdict) → told (outcome v size new output .answer) ≡ v
@@ -55,6 +55,3 @@ module _ (size : ℕ) (new output : List ℕ) where
           ∙ ap (λ (k : ℕ). drop k (written output 0 new)) (sym end)
           ∙ written-after output 0 new long
           ∙ ap (λ (k : ℕ). drop k output) end
-
-      pub filling-length : length (filling tests size new output .output) ≡ length output
-      filling-length = ap (λ (v : Verdict). length (outcome v size new output .output)) allowed ∙ written-length output 0 new long

@@ -1,9 +1,9 @@
--- Counting in pieces, rounded up: by a division, and what the count says of the bytes.
+-- Counting in pieces, rounded up, by a division.
 -- Assumes nothing.
 use mathlib.Core.Path.{_≡_}
 use mathlib.Core.Logic.{_≢_}
-use Prim.Native.Nat.{ℕ, _+_, _-_, _*_, _/_, _%_, _≤_, _<_}
-use native.Mathlib.Nat.{mod-lt, add-mul, one-mul, div-add-mod', div-eq-of-lt-le, mul-le-mul-right, lt-div-mul-add, div-mul-le-self}
+use Prim.Native.Nat.{ℕ, _+_, _-_, _*_, _/_, _%_, _<_}
+use native.Mathlib.Nat.{mod-lt, add-mul, one-mul, div-add-mod', div-eq-of-lt-le}
 use native.Mathlib.Omega.{arith}
 use Rattle.units.specs.Counts.{pieces}
 
@@ -28,15 +28,3 @@ module _ (size bytes : ℕ) (some : 0 < size) where
       let this : (bytes / size + 1) * size ≡ bytes / size * size + size = next-piece (bytes / size) in
       let above : (bytes / size + 1 + 1) * size ≡ (bytes / size + 1) * size + size = next-piece (bytes / size + 1) in
       div-eq-of-lt-le size (omega arith) (omega arith)
-
-  -- the pieces hold all bytes, and each of them holds one
-  pub pieces-hold : bytes ≤ pieces size bytes * size
-  pieces-hold = let up : bytes + (size - 1) < pieces size bytes * size + size = lt-div-mul-add some in omega arith
-
-  pub piece-holds : (k : ℕ) → k < pieces size bytes → k * size < bytes
-  piece-holds k inside =
-      let down : pieces size bytes * size ≤ bytes + (size - 1) = div-mul-le-self (bytes + (size - 1)) size in
-      let this : (k + 1) * size ≡ k * size + size = next-piece k in
-      let up : k + 1 ≤ pieces size bytes = omega arith in
-      let most : (k + 1) * size ≤ pieces size bytes * size = mul-le-mul-right size up in
-      omega arith
