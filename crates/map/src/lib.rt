@@ -6,16 +6,20 @@ pub use making::make;
 pub use making::page_at;
 pub use making::put_entry;
 ghost use mathlib.Core.Path.{_≡_};
-ghost use Prim.Native.Nat.{_+_, _*_, _≤_, min};
+ghost use mathlib.Core.Bool.{_&&_};
+ghost use Prim.Native.Nat.{_+_, _*_, _^_, _≤_, _<_, min};
 ghost use lib.ListN.{length};
 ghost use Rattle.units.specs.Refusals.{first};
 ghost use Rattle.signature.specs.Objects.{lowFirst};
 ghost use Rattle.signature.specs.Signatures.{upTo};
 ghost use Rattle.map.specs.Files.{pages as Header·pages, place as File·place};
-ghost use Rattle.map.specs.Reading.{fieldAt, underRule, long, isDue, headerOf, headerTests, entryTests, told, reading, entryAt, nKept, pageKept, bucketKept};
+ghost use Rattle.map.specs.Reading.{fieldAt, underRule, long, isDue, headerOf, headerTests, entryTests, told, reading, entryAt};
 use signature::Signature;
 use units::Bytes;
 use units::Symbols;
+
+// The three fields before the first entry.
+pub const HEADER_BYTES: usize = 18;
 
 pub struct Header {
     pub n: usize,
@@ -86,15 +90,19 @@ fn under_rule(size: usize, map: &[u8], at: usize) -> Field
     })
 }
 
+// Past the map's end there are zeros.
 fn two_bytes(map: &[u8], at: usize) -> usize
-    requires { ⌜ at + 2 ≤ length (now map) ⌝ }
+    requires { ⌜ at + 1 < 2 ^ 64 ⌝ }
     ensures { λ r. ⌜ r ≡ lowFirst 2 (now (map .entry)) at ⌝ }
 {
-    map[at] as usize + map[at + 1] as usize * 256
+    let second = at + 1;
+    let low = signature::byte(map, Bytes { count: at }) as usize;
+    let high = signature::byte(map, Bytes { count: second }) as usize;
+    low + high * 256
 }
 
 fn four_bytes(map: &[u8], at: usize) -> usize
-    requires { ⌜ at + 4 ≤ length (now map) ⌝ }
+    requires { ⌜ at + 3 < 2 ^ 64 ⌝ }
     ensures { λ r. ⌜ r ≡ lowFirst 4 (now (map .entry)) at ⌝ }
 {
     two_bytes(map, at) + two_bytes(map, at + 2) * 65536
@@ -110,13 +118,22 @@ fn due(tag: u8, n: usize, map: &[u8], at: usize) -> bool
     f.tag == tag
 }
 
+// Whether that is so, and the field's value is allowed.
+fn kept(tag: u8, map: &[u8], at: usize, allowed: bool) -> bool
+    ensures { λ r. ⌜ r ≡ (isDue tag (fieldAt 0 (now (map .entry)) at) && allowed) ⌝ }
+{
+    if !due(tag, 0, map, at) {
+        return false;
+    }
+    allowed
+}
+
 // What stands in the places of the header's three values.
 fn header_of(map: &[u8]) -> Header
-    requires { ⌜ 18 ≤ length (now map) ⌝ }
     ensures { λ r. ⌜ r ≡ headerOf (now (map .entry)) ⌝ }
 {
     Header {
-        n: map[3] as usize,
+        n: signature::byte(map, Bytes { count: 3 }) as usize,
         page: Bytes {
             count: four_bytes(map, 7),
         },
@@ -132,49 +149,20 @@ pub fn pages(h: Header) -> usize
     units::pages_of(h.page, h.bucket)
 }
 
-fn n_kept(map: &[u8]) -> bool
-    ensures { λ r. ⌜ r ≡ nKept (now (map .entry)) ⌝ }
-{
-    if !due(1, 0, map, 0) {
-        return false;
-    }
-    units::n_allowed(map[3] as usize)
-}
-
-fn page_kept(map: &[u8]) -> bool
-    ensures { λ r. ⌜ r ≡ pageKept (now (map .entry)) ⌝ }
-{
-    if !due(2, 0, map, 4) {
-        return false;
-    }
-    units::page_allowed(Bytes {
-        count: four_bytes(map, 7),
-    })
-}
-
-fn bucket_kept(map: &[u8]) -> bool
-    ensures { λ r. ⌜ r ≡ bucketKept (now (map .entry)) ⌝ }
-{
-    if !due(3, 0, map, 11) {
-        return false;
-    }
-    let h = header_of(map);
-    units::bucket_allowed(h.bucket, pages(h))
-}
-
 fn read_header(map: &[u8]) -> Reading
     ensures { λ r. ⌜ r ≡ told (first (headerTests (now (map .entry)))) (headerOf (now (map .entry))) ⌝ }
 {
-    if !n_kept(map) {
+    let h = header_of(map);
+    if !kept(1, map, 0, units::n_allowed(h.n)) {
         return Reading::Breaks(0);
     }
-    if !page_kept(map) {
+    if !kept(2, map, 4, units::page_allowed(h.page)) {
         return Reading::Breaks(4);
     }
-    if !bucket_kept(map) {
+    if !kept(3, map, 11, units::bucket_allowed(h.bucket, pages(h))) {
         return Reading::Breaks(11);
     }
-    Reading::Holds(header_of(map))
+    Reading::Holds(h)
 }
 
 // One entry a page, and nothing after the last.
@@ -185,7 +173,7 @@ fn read_entries(h: Header, map: &[u8]) -> Reading
     let n = h.n;
     let size = 3 + 2 * n;
     let mut left = pages(h);
-    let mut at: usize = 18;
+    let mut at = HEADER_BYTES;
     while left > 0 {
         if !due(4, n, map, at) {
             return Reading::Breaks(at);
@@ -231,13 +219,13 @@ pub fn entry_at(n: usize, map: &[u8], k: usize) -> Entry
 fn place_within(n: usize, k: usize, most: usize) -> usize
     ensures { λ r. ⌜ r ≡ min (File·place n k) most ⌝ }
 {
-    if most < 18 {
+    if most < HEADER_BYTES {
         return most;
     }
     if k == 0 {
-        return 18;
+        return HEADER_BYTES;
     }
-    let room = most - 18;
+    let room = most - HEADER_BYTES;
     if n > room / 2 {
         return most;
     }
@@ -245,7 +233,7 @@ fn place_within(n: usize, k: usize, most: usize) -> usize
     if k > room / size {
         return most;
     }
-    18 + k * size
+    HEADER_BYTES + k * size
 }
 
 // Component j of the entry at a place; zero above n.
@@ -256,9 +244,5 @@ fn component_at(n: usize, j: usize, map: &[u8], at: usize) -> u16
     if n < j {
         return 0;
     }
-    let first = at + 1 + 2 * j;
-    let second = first + 1;
-    let low = signature::byte(map, Bytes { count: first }) as u16;
-    let high = signature::byte(map, Bytes { count: second }) as u16;
-    low + high * 256
+    two_bytes(map, at + 1 + 2 * j) as u16
 }

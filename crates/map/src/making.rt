@@ -12,6 +12,7 @@ ghost use Rattle.map.specs.Files.{tagged, entries, entryPut, fileBytes};
 ghost use Rattle.map.specs.Files.{header as File·header, components as File·components, entry as File·entry, pages as Header·pages};
 ghost use Rattle.map.specs.Making.{madeEntry, making};
 use crate::Entry;
+use crate::HEADER_BYTES;
 use crate::Header;
 use crate::pages;
 use crate::place_within;
@@ -166,7 +167,7 @@ pub fn make(n: usize, page: Bytes, bucket: &[u8], output: &mut [u8]) -> Filled
     if !units::bucket_allowed(all, count) {
         return units::refused(Refusal::LONG, 0);
     }
-    let needed = 18 + count * (3 + 2 * n);
+    let needed = HEADER_BYTES + count * (3 + 2 * n);
     if output.len() < needed {
         return units::refused(Refusal::ROOM, needed);
     }

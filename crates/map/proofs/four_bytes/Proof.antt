@@ -22,16 +22,14 @@ two-bytes-requires-2 c κs = search needs
 mul-result : tie.Need-mul-result
 mul-result c =
     let args : _ = c .before .before .before .args in
-    let shared-slice-known : _ = c .before .before .shared-slice-known in
-    let small : lowFirst 2 (args .map .now) (args .at + 2) < 65536 = low-first-lt 2 _ _ (λ k. shared-slice-known .given k .fits) in
+    let high : lowFirst 2 (args .map .now) (args .at + 2) < 65536 = low-first-lt 2 _ _ (λ k. c .before .before .shared-slice-known .given k .fits) in
     omega (arith, c .two-bytes2 .ensures)
 
 add-result : tie.Need-add-result
 add-result c =
     let args : _ = c .before .before .before .args in
-    let shared-slice-known : _ = c .before .before .shared-slice-known in
-    let small : lowFirst 2 (args .map .now) (args .at + 2) < 65536 = low-first-lt 2 _ _ (λ k. shared-slice-known .given k .fits) in
-    let low : lowFirst 2 (args .map .now) (args .at) < 65536 = low-first-lt 2 _ _ (λ k. shared-slice-known .given k .fits) in
+    let high : lowFirst 2 (args .map .now) (args .at + 2) < 65536 = low-first-lt 2 _ _ (λ k. c .before .before .shared-slice-known .given k .fits) in
+    let low : lowFirst 2 (args .map .now) (args .at) < 65536 = low-first-lt 2 _ _ (λ k. c .before .before .shared-slice-known .given k .fits) in
     omega (arith, c .before .two-bytes .ensures, c .two-bytes2 .ensures)
 
 returns : tie.Need-returns

@@ -1,76 +1,106 @@
 -- `map::read_header` meets its contract: each return is the first rule of the header that is broken, or none.
 -- Assumes nothing.
 use mathlib.Core.Path.{_≡_, sym, ap, _∙_}
-use mathlib.Core.Bool.{true, false}
-use native.Mathlib.Omega.{arith}
+use mathlib.Core.Bool.{Bool, true, false, _&&_}
+use mathlib.Core.List.{List}
+use Prim.Native.Nat.{ℕ}
 use borrow.Author.Needs.{needs}
 use borrow.Author.Tests.{not-true, not-false}
-use Rattle.map.specs.Reading.{nKept, pageKept, bucketKept}
+use Rattle.units.specs.Sizes.{nAllowed, pageAllowed, bucketAllowed}
+use Rattle.map.specs.Reading.{fieldAt, isDue, nKept, pageKept, bucketKept}
+use Rattle.map.specs.Files.{pages}
 use Rattle.map.specs.declared.Reading.the-variants.{Holds}
-use Rattle.map.proofs.Fields.{Due, bucket-due}
+use Rattle.map.specs.declared.Header.{Header}
 use Rattle.map.proofs.read_header.Statement.{statement}
 use Rattle.map.proofs.read_header.Tie as tie
 
-n-kept-requires : tie.Need-n-kept-requires
-n-kept-requires c κs = search needs
+-- what each of the three tests found
+
+n-kept : (c : tie.After-kept) → c .kept .result ≡ nKept (c .before .before .before .before .args .map .now)
+n-kept c =
+    c .kept .ensures ∙ ap (λ (b : Bool). isDue 1 (fieldAt 0 (c .before .before .before .before .args .map .now) 0) && b)
+    (c .before .n-allowed .ensures ∙ ap (λ (h : Header). nAllowed (h .n)) (c .before .before .header-of .ensures))
+
+page-kept : (c : tie.After-kept2) → c .kept2 .result ≡ pageKept (c .before .before .before .before .before .before .before .args .map .now)
+page-kept c =
+    c .kept2 .ensures ∙ ap (λ (b : Bool). isDue 2 (fieldAt 0 (c .before .before .before .before .before .before .before .args .map .now) 4) && b)
+    (c .before .page-allowed .ensures ∙ ap (λ (h : Header). pageAllowed (h .page .count)) (c .before .before .before .before .before .header-of .ensures))
+
+bucket-kept : (c : tie.After-kept3) → c .kept3 .result ≡ bucketKept (c .before .before .before .before .before .before .before .before .before .before .before .args .map .now)
+bucket-kept c =
+    c .kept3 .ensures ∙ ap (λ (b : Bool). isDue 3 (fieldAt 0 (c .before .before .before .before .before .before .before .before .before .before .before .args .map .now) 11) && b)
+    (c .before .bucket-allowed .ensures
+    ∙ ap (bucketAllowed (c .before .before .before .before .before .before .before .before .before .header-of .result .bucket .count)) (c .before .before .pages .ensures)
+    ∙ ap (λ (h : Header). bucketAllowed (h .bucket .count) (pages h)) (c .before .before .before .before .before .before .before .before .before .header-of .ensures))
+
+n-holds : (c : tie.Else1) → nKept (c .before .before .before .before .before .args .map .now) ≡ true
+n-holds c = sym (n-kept (c .before)) ∙ not-false _ (c .if1 .left)
+
+page-holds : (c : tie.Else2) → pageKept (c .before .before .before .before .before .before .before .before .args .map .now) ≡ true
+page-holds c = sym (page-kept (c .before)) ∙ not-false _ (c .if2 .left)
+
+header-of-requires : tie.Need-header-of-requires
+header-of-requires c κs = search needs
+
+n-allowed-requires : tie.Need-n-allowed-requires
+n-allowed-requires c κs = search needs
+
+kept-requires : tie.Need-kept-requires
+kept-requires c κs = search needs
 
 returns : tie.Need-returns
 returns c =
-    let n : nKept (c .before .before .before .args .map .now) ≡ false = sym (c .before .n-kept .ensures) ∙ not-true _ (c .if1 .taken) in
+    let n : nKept (c .before .before .before .before .before .args .map .now) ≡ false = sym (n-kept (c .before)) ∙ not-true _ (c .if1 .taken) in
     simp n
 
-page-kept-requires : tie.Need-page-kept-requires
-page-kept-requires c κs = search needs
+page-allowed-requires : tie.Need-page-allowed-requires
+page-allowed-requires c κs = search needs
+
+kept-requires-2 : tie.Need-kept-requires-2
+kept-requires-2 c κs = search needs
 
 returns-2 : tie.Need-returns-2
 returns-2 c =
-    let n : nKept (c .before .before .before .before .before .args .map .now) ≡ true = sym (c .before .before .before .n-kept .ensures) ∙ not-false _ (c .before .before .if1 .left) in
-    let page : pageKept (c .before .before .before .before .before .args .map .now) ≡ false = sym (c .before .page-kept .ensures) ∙ not-true _ (c .if2 .taken) in
-    simp (n, page)
+    let bytes : List ℕ = c .before .before .before .before .before .before .before .before .args .map .now in
+    let page : pageKept bytes ≡ false = sym (page-kept (c .before)) ∙ not-true _ (c .if2 .taken) in
+    simp (n-holds (c .before .before .before), page)
 
-bucket-kept-requires : tie.Need-bucket-kept-requires
-bucket-kept-requires c κs = search needs
+pages-requires : tie.Need-pages-requires
+pages-requires c κs = search needs
+
+bucket-allowed-requires : tie.Need-bucket-allowed-requires
+bucket-allowed-requires c κs = search needs
+
+kept-requires-3 : tie.Need-kept-requires-3
+kept-requires-3 c κs = search needs
 
 returns-3 : tie.Need-returns-3
 returns-3 c =
-    let args : _ = c .before .before .before .before .before .before .before .args in
-    let n-kept : _ = c .before .before .before .before .before .n-kept in
-    let if1 : _ = c .before .before .before .before .if1 in
-    let page-kept : _ = c .before .before .before .page-kept in
-    let if2 : _ = c .before .before .if2 in
-    let n : nKept (args .map .now) ≡ true = sym (n-kept .ensures) ∙ not-false _ (if1 .left) in
-    let page : pageKept (args .map .now) ≡ true = sym (page-kept .ensures) ∙ not-false _ (if2 .left) in
-    let bucket : bucketKept (args .map .now) ≡ false = sym (c .before .bucket-kept .ensures) ∙ not-true _ (c .if3 .taken) in
-    simp (n, page, bucket)
-
-header-of-requires : tie.Need-header-of-requires
-header-of-requires c κs =
-    let bucket : bucketKept (c .before .before .before .before .before .before .before .args .map .now) ≡ true = sym (c .before .bucket-kept .ensures) ∙ not-false _ (c .if3 .left) in
-    let d : Due 3 4 (c .before .before .before .before .before .before .before .args .map .now) 11 = bucket-due _ bucket in
-    omega arith
+    let bytes : List ℕ = c .before .before .before .before .before .before .before .before .before .before .before .before .args .map .now in
+    let bucket : bucketKept bytes ≡ false = sym (bucket-kept (c .before)) ∙ not-true _ (c .if3 .taken) in
+    simp (n-holds (c .before .before .before .before .before .before .before), page-holds (c .before .before .before .before), bucket)
 
 returns-4 : tie.Need-returns-4
 returns-4 c =
-    let args : _ = c .before .before .before .before .before .before .before .before .args in
-    let n-kept : _ = c .before .before .before .before .before .before .n-kept in
-    let if1 : _ = c .before .before .before .before .before .if1 in
-    let page-kept : _ = c .before .before .before .before .page-kept in
-    let if2 : _ = c .before .before .before .if2 in
-    let bucket-kept : _ = c .before .before .bucket-kept in
-    let n : nKept (args .map .now) ≡ true = sym (n-kept .ensures) ∙ not-false _ (if1 .left) in
-    let page : pageKept (args .map .now) ≡ true = sym (page-kept .ensures) ∙ not-false _ (if2 .left) in
-    let bucket : bucketKept (args .map .now) ≡ true = sym (bucket-kept .ensures) ∙ not-false _ (c .before .if3 .left) in
-    simp (n, page, bucket) (ap Holds (c .header-of .ensures))
+    let args : _ = c .before .before .before .before .before .before .before .before .before .before .before .before .args in
+    let header-of : _ = c .before .before .before .before .before .before .before .before .before .before .header-of in
+    let bytes : List ℕ = args .map .now in
+    let bucket : bucketKept bytes ≡ true = sym (bucket-kept (c .before)) ∙ not-false _ (c .if3 .left) in
+    simp (n-holds (c .before .before .before .before .before .before .before), page-holds (c .before .before .before .before), bucket) (ap Holds (header-of .ensures))
 
 pub read-header-spec : {M : Type 1} → statement M
 read-header-spec =
     tie.close
     (tie.spec
-    n-kept-requires
-    returns
-    page-kept-requires
-    returns-2
-    bucket-kept-requires
-    returns-3
     header-of-requires
+    n-allowed-requires
+    kept-requires
+    returns
+    page-allowed-requires
+    kept-requires-2
+    returns-2
+    pages-requires
+    bucket-allowed-requires
+    kept-requires-3
+    returns-3
     returns-4)

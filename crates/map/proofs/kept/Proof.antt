@@ -1,0 +1,25 @@
+-- `map::kept` meets its contract: each return is the conjunction at the test that led there.
+-- Assumes nothing.
+use mathlib.Core.Path.{_≡_, sym, _∙_}
+use mathlib.Core.Bool.{true, false}
+use borrow.Author.Needs.{needs}
+use borrow.Author.Tests.{not-true, not-false}
+use Rattle.map.specs.Reading.{fieldAt, isDue}
+use Rattle.map.proofs.kept.Statement.{statement}
+use Rattle.map.proofs.kept.Tie as tie
+
+due-requires : tie.Need-due-requires
+due-requires c κs = search needs
+
+returns : tie.Need-returns
+returns c =
+    let no : isDue (c .before .before .before .args .tag) (fieldAt 0 (c .before .before .before .args .map .now) (c .before .before .before .args .at)) ≡ false = sym (c .before .due .ensures) ∙ not-true _ (c .if1 .taken) in
+    simp no
+
+returns-2 : tie.Need-returns-2
+returns-2 c =
+    let yes : isDue (c .before .before .before .args .tag) (fieldAt 0 (c .before .before .before .args .map .now) (c .before .before .before .args .at)) ≡ true = sym (c .before .due .ensures) ∙ not-false _ (c .if1 .left) in
+    simp yes
+
+pub kept-spec : {M : Type 1} → statement M
+kept-spec = tie.close (tie.spec due-requires returns returns-2)
