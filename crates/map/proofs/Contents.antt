@@ -4,7 +4,7 @@ use mathlib.Core.Path.{_≡_, refl, sym, ap, ap₂, _∙_}
 use mathlib.Core.Bool.{true, _&&_}
 use mathlib.Core.List.{List, [], _++_, append-assoc}
 use Prim.Native.Nat.{ℕ, zero, suc, _+_, _-_, _*_, _≤_, _<_}
-use native.Mathlib.Nat.{zero-add, add-zero}
+use native.Mathlib.Nat.{zero-add, add-zero, le-refl, le-of-lt}
 use native.Mathlib.Omega.{arith}
 use lib.ListN.{length, getD, length-append}
 use Rattle.units.specs.Sizes.{nAllowed, pageAllowed, bucketAllowed}
@@ -25,7 +25,7 @@ use Rattle.map.proofs.Numbers.{low-first-after, low-bytes-length, writt
 use Rattle.map.proofs.Fields.{due-is}
 use Rattle.map.proofs.Entries.{entry-kept, end-kept, due-entry}
 use Rattle.map.proofs.Headers.{Kept, kept-header, entries-decide}
-use Rattle.map.proofs.Runs.{run-at, run-length}
+use Rattle.map.proofs.Runs.{run-at, run-long, run-length}
 use Rattle.map.proofs.Tagging.{tagged-length, header-length, components-length, entry-length}
 use Rattle.map.proofs.MadeMaps.{n-most, page-most, bucket-most, next-place}
 use Rattle.map.proofs.Placed.{value-read, tag-read, placed-due}
@@ -58,7 +58,7 @@ component-read n s rest i inside small =
     ∙ ap (λ (j : ℕ). lowFirst 2 (g j ++ (after ++ rest)) 0) up
     ∙ written-read 2 (s (suc i)) (after ++ rest) small
 
-module _ (h : Header) (e : ℕ → Entry) (ok : Sized h) (held : (k : ℕ) → Held (h .n) (e k)) where
+module _ (h : Header) (e : ℕ → Entry) (ok : Sized h) (held : (k : ℕ) → k < pages h → Held (h .n) (e k)) where
   small : h .n ≤ 4
   small = n-most (h .n) (ok .n-fits)
 
@@ -148,17 +148,22 @@ module _ (h : Header) (e : ℕ → Entry) (ok : Sized h) (held : (k : ℕ) → H
       }
 
   -- its n, and so its length
-  held-n : (k : ℕ) → e k .signature .n ≡ h .n
-  held-n k = ap (λ (s : Signature). s .n) (held k .cleared)
+  held-n : (k : ℕ) → k < pages h → e k .signature .n ≡ h .n
+  held-n k inside = ap (λ (s : Signature). s .n) (held k inside .cleared)
 
-  held-length : (k : ℕ) → length (f k) ≡ entryBytes (h .n)
+  held-length : (k : ℕ) → k < pages h → length (f k) ≡ entryBytes (h .n)
   unfolding f
-  held-length k = entry-length (e k) ∙ ap entryBytes (held-n k)
+  held-length k inside = entry-length (e k) ∙ ap entryBytes (held-n k inside)
+
+  -- the first k of them
+  pub entries-length : (k : ℕ) → k ≤ pages h → length (entries e 0 k) ≡ k * entryBytes (h .n)
+  unfolding f
+  entries-length k most = run-long f (entryBytes (h .n)) k 0 (λ i low high. held-length i (omega arith))
 
   pub file-length : length (file h e) ≡ place (h .n) (pages h)
   unfolding file f
   file-length =
-      omega (arith, length-append (header h) (entries e 0 (pages h)), header-length h, run-length f (entryBytes (h .n)) held-length (pages h) 0)
+      omega (arith, length-append (header h) (entries e 0 (pages h)), header-length h, entries-length (pages h) (le-refl (pages h)))
 
   module _ (k : ℕ) (inside : k < pages h) where
     front : List ℕ
@@ -171,9 +176,8 @@ module _ (h : Header) (e : ℕ → Entry) (ok : Sized h) (held : (k : ℕ) → H
     value = components (h .n) (handed (e k .signature))
 
     front-length : length front ≡ place (h .n) k
-    unfolding front
-    front-length =
-        omega (arith, length-append (header h) (endToEnd f 0 k), header-length h, run-length f (entryBytes (h .n)) held-length k 0)
+    unfolding front f
+    front-length = omega (arith, length-append (header h) (entries e 0 k), header-length h, entries-length k (le-of-lt inside))
 
     -- the file, cut before and after the entry of page k
     by-entry : file h e ≡ front ++ (tagged 4 value ++ after)
@@ -182,7 +186,7 @@ module _ (h : Header) (e : ℕ → Entry) (ok : Sized h) (held : (k : ℕ) → H
         ap (λ (l : List ℕ). header h ++ l)
         (run-at f 0 k (pages h) inside
         ∙ ap (λ (l : List ℕ). endToEnd f 0 k ++ (l ++ after))
-        (ap f (zero-add k) ∙ ap₂ (λ (t n : ℕ). tagged t (components n (handed (e k .signature)))) (held k .tagged-04) (held-n k)))
+        (ap f (zero-add k) ∙ ap₂ (λ (t n : ℕ). tagged t (components n (handed (e k .signature)))) (held k inside .tagged-04) (held-n k inside)))
         ∙ sym (append-assoc (header h) (endToEnd f 0 k) (tagged 4 value ++ after))
 
     value-length : length value ≡ 2 * h .n
@@ -202,7 +206,7 @@ module _ (h : Header) (e : ℕ → Entry) (ok : Sized h) (held : (k : ℕ) → H
         let at : place (h .n) k + 1 + 2 * j ≡ place (h .n) k + 3 + 2 * i = omega arith in
         ap₂ (lowFirst 2) by-entry at
         ∙ value-read front (place (h .n) k) 4 (2 * h .n) value after front-length value-length 2 (2 * i)
-        ∙ component-read (h .n) (handed (e k .signature)) after i (omega arith) (held k .symbols (suc i))
+        ∙ component-read (h .n) (handed (e k .signature)) after i (omega arith) (held k inside .symbols (suc i))
         ∙ ap (handed (e k .signature)) up
 
     pub entry-read : entryAt (h .n) (file h e) k ≡ e k
@@ -211,8 +215,8 @@ module _ (h : Header) (e : ℕ → Entry) (ok : Sized h) (held : (k : ℕ) → H
         ap₂ {C = Entry} (λ t s. record { tag = t; signature = s })
         (ap (λ (l : List ℕ). getD l (place (h .n) k) 0) by-entry
         ∙ tag-read front (place (h .n) k) 4 (2 * h .n) value after front-length value-length
-        ∙ sym (held k .tagged-04))
-        (answered-within (h .n) _ _ component-back ∙ sym (held k .cleared))
+        ∙ sym (held k inside .tagged-04))
+        (answered-within (h .n) _ _ component-back ∙ sym (held k inside .cleared))
 
   -- the rules of the entries from page k on
   kept-from : (m k : ℕ) → k + m ≡ pages h → first (entryTests (h .n) (file h e) m (place (h .n) k)) ≡ Allowed

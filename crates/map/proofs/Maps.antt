@@ -125,6 +125,15 @@ module _ (bytes : List ℕ) (kept : Kept bytes) where
 
 -- ---- make map
 
+pub made-held : (n page : ℕ) (bucket : List ℕ) → Octets bucket → (k : ℕ) → Held n (madeEntry n page bucket k)
+unfolding madeEntry
+made-held n page bucket octets k =
+    record {
+      tagged-04 = refl;
+      symbols = own-below wide wide-sound n (pageAt page bucket k) (page-octets page bucket k octets);
+      cleared = sym (answered-handed n (λ j x. x) (signature (wide .field) (wide .size) (pageAt page bucket k)));
+    }
+
 module _ (n page : ℕ) (bucket output : List ℕ) where
   pub make-refused : (r : Refusal) → (Filling·told (making n page bucket output .answer) ≡ Verdict.Refused r) ↔ Lowest (makeTests n page bucket output) r
   unfolding making
@@ -135,26 +144,17 @@ module _ (n page : ℕ) (bucket output : List ℕ) where
   make-refused-keeps = filling-refused-keeps (needed n page bucket) (made n page bucket) output (makeTests n page bucket output)
 
   module _ (octets : Octets bucket) (fits : Sized (madeHeader n page bucket)) where
-    made-held : (k : ℕ) → Held n (madeEntry n page bucket k)
-    unfolding madeEntry
-    made-held k =
-        record {
-          tagged-04 = refl;
-          symbols = own-below wide wide-sound n (pageAt page bucket k) (page-octets page bucket k octets);
-          cleared = sym (answered-handed n (λ j x. x) (signature (wide .field) (wide .size) (pageAt page bucket k)));
-        }
-
     pub made-reads : reading (made n page bucket) ≡ Holds (madeHeader n page bucket)
     unfolding made
-    made-reads = file-read (madeHeader n page bucket) (madeEntry n page bucket) fits made-held
+    made-reads = file-read (madeHeader n page bucket) (madeEntry n page bucket) fits (λ k inside. made-held n page bucket octets k)
 
     pub made-entry-reads : (k : ℕ) → k < pagesIn page (length bucket) → entryAt n (made n page bucket) k ≡ madeEntry n page bucket k
     unfolding made
-    made-entry-reads = entry-read (madeHeader n page bucket) (madeEntry n page bucket) fits made-held
+    made-entry-reads = entry-read (madeHeader n page bucket) (madeEntry n page bucket) fits (λ k inside. made-held n page bucket octets k)
 
     pub made-length-needed : length (made n page bucket) ≡ needed n page bucket
     unfolding made
-    made-length-needed = file-length (madeHeader n page bucket) (madeEntry n page bucket) fits made-held
+    made-length-needed = file-length (madeHeader n page bucket) (madeEntry n page bucket) fits (λ k inside. made-held n page bucket octets k)
 
     -- with room enough the map stands at the output's start, and the bytes after it are as they were
     module _ (enough : needed n page bucket ≤ length output) where

@@ -19,11 +19,17 @@ run-step f old at m k fits =
     let both : length (f k ++ endToEnd f (suc k) m) ≡ length (f k) + length (endToEnd f (suc k) m) = length-append (f k) (endToEnd f (suc k) m) in
     put-then old (written old at (f k)) _ at (at + length (f k)) _ (f k) (endToEnd f (suc k) m) (omega arith) refl refl
 
+-- lists of one length, and how long they are together
+pub run-long : (f : ℕ → List ℕ) (size m k : ℕ) → ((i : ℕ) → k ≤ i → i < k + m → length (f i) ≡ size) → length (endToEnd f k m) ≡ m * size
+unfolding endToEnd
+run-long f size zero k sized = omega arith
+run-long f size (suc m) k sized =
+    let rest : length (endToEnd f (suc k) m) ≡ m * size = run-long f size m (suc k) (λ i low high. sized i (omega arith) (omega arith)) in
+    omega (arith, length-append (f k) (endToEnd f (suc k) m), sized k (le-refl k) (omega arith), suc-mul m size)
+
 module _ (f : ℕ → List ℕ) (size : ℕ) (sized : (k : ℕ) → length (f k) ≡ size) where
   pub run-length : (m k : ℕ) → length (endToEnd f k m) ≡ m * size
-  unfolding endToEnd
-  run-length zero k = omega arith
-  run-length (suc m) k = omega (arith, length-append (f k) (endToEnd f (suc k) m), sized k, run-length m (suc k), suc-mul m size)
+  run-length m k = run-long f size m k (λ i low high. sized i)
 
   pub run-turn : (old : List ℕ) (at m k : ℕ) → at + suc m * size ≤ length old
       → written (written old at (f k)) (at + size) (endToEnd f (suc k) m) ≡ written old at (endToEnd f k (suc m))

@@ -4,3 +4,4 @@ pub mod Pieces
 pub mod Refusing
 pub mod Writing
 pub mod Filling
+pub mod Naming

@@ -4,3 +4,4 @@ pub mod Sizes
 pub mod Refusals
 pub mod Writing
 pub mod Filling
+pub mod Naming

@@ -157,3 +157,9 @@ pub fn refused(number: u32, value: usize) -> Filled
 {
     Filled::Refused(Refusal { number, value })
 }
+
+// What an operation answers that puts numbers at the start of a lent list: how many.
+pub enum Listed {
+    Numbers(usize),
+    Refused(Refusal),
+}

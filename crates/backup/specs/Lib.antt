@@ -1,0 +1,3 @@
+-- What a backup is, and what a store makes of it.
+pub mod Openings
+pub mod Backups
