@@ -1,1 +1,4 @@
 -- The laws of a backup.
+pub mod Opened
+pub mod Sameness
+pub mod Entered

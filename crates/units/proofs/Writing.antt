@@ -98,3 +98,12 @@ module _ (old : List ℕ) (at : ℕ) (new : List ℕ) (fits : at + length new �
   written-after =
       ap (drop (at + length new)) (sym (append-assoc (take at old) new (drop (at + length new) old)))
       ∙ drop-at (take at old ++ new) (drop (at + length new) old) (at + length new) (length-append (take at old) new ∙ ap (λ (k : ℕ). k + length new) front)
+
+-- a part written over one of its length
+pub written-over : (front part back : List ℕ) (at : ℕ) (new : List ℕ) → length front ≡ at → length part ≡ length new
+    → written (front ++ (part ++ back)) at new ≡ front ++ (new ++ back)
+unfolding written
+written-over front part back at new here long =
+    let end : length (front ++ part) ≡ at + length new = omega (arith, length-append front part) in
+    ap₂ (λ (p q : List ℕ). p ++ (new ++ q)) (take-at front (part ++ back) at here)
+    (ap (drop (at + length new)) (sym (append-assoc front part back)) ∙ drop-at (front ++ part) back (at + length new) end)

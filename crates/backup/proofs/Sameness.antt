@@ -1,0 +1,33 @@
+-- Two signatures that are the same component by component are one signature.
+-- Assumes nothing.
+use mathlib.Core.Path.{_≡_, refl, sym, ap, _∙_}
+use mathlib.Core.Bool.{Bool, true, false, _&&_}
+use lib.Dec.{eqb}
+use borrow.Author.Tests.{eqb-true, eq-eqb}
+use Rattle.signature.specs.declared.Signature.{Signature}
+use Rattle.map.proofs.Fields.{halves}
+use Rattle.backup.specs.Backups.{same}
+
+pub four-of-five : (a b c d e : Bool) → a ≡ true → b ≡ true → c ≡ true → d ≡ true → (a && b && c && d && e) ≡ e
+four-of-five a b c d e p q r s = simp (p, q, r, s)
+
+pub same-is : (a b : Signature) → same a b ≡ true → a ≡ b
+unfolding same
+same-is a b e =
+    let five : _ = halves (eqb (a .n) (b .n) && eqb (a .s1) (b .s1) && eqb (a .s2) (b .s2) && eqb (a .s3) (b .s3)) _ e in
+    let four : _ = halves (eqb (a .n) (b .n) && eqb (a .s1) (b .s1) && eqb (a .s2) (b .s2)) _ (five .0) in
+    let three : _ = halves (eqb (a .n) (b .n) && eqb (a .s1) (b .s1)) _ (four .0) in
+    let two : _ = halves (eqb (a .n) (b .n)) _ (three .0) in
+    let n : a .n ≡ b .n = eqb-true _ _ (two .0) in
+    let s1 : a .s1 ≡ b .s1 = eqb-true _ _ (two .1) in
+    let s2 : a .s2 ≡ b .s2 = eqb-true _ _ (three .1) in
+    let s3 : a .s3 ≡ b .s3 = eqb-true _ _ (four .1) in
+    let s4 : a .s4 ≡ b .s4 = eqb-true _ _ (five .1) in
+    λ i. record { n = n i; s1 = s1 i; s2 = s2 i; s3 = s3 i; s4 = s4 i }
+
+pub is-same : (a b : Signature) → a ≡ b → same a b ≡ true
+unfolding same
+is-same a b e =
+    ap (same a) (sym e)
+    ∙ four-of-five _ _ _ _ _ (eq-eqb (a .n) (a .n) refl) (eq-eqb (a .s1) (a .s1) refl) (eq-eqb (a .s2) (a .s2) refl) (eq-eqb (a .s3) (a .s3) refl)
+    ∙ eq-eqb (a .s4) (a .s4) refl

@@ -1,0 +1,38 @@
+use Rattle.backup.proofs.Opened.{open-breaks, open-holds}
+use mathlib.Core.Path.{sym, _∙_}
+use borrow.Author.Needs.{needs}
+use Rattle.backup.proofs.open.Statement.{statement}
+use Rattle.backup.proofs.open.Tie as tie
+use Rattle.backup.proofs.open.Reads as reads
+use Rattle.backup.proofs.open.Lts as lts
+use Rattle.backup.proofs.matched.Reads as matched-reads
+use Rattle.map.proofs.read.Reads as read-reads
+
+read-requires : tie.Need-read-requires
+read-requires c κs = search needs
+
+enum-known-reading : tie.Need-enum-known-reading
+enum-known-reading c = search needs
+
+enum-known-reading-2 : tie.Need-enum-known-reading-2
+enum-known-reading-2 c = search needs
+
+matched-requires : tie.Need-matched-requires
+matched-requires c κs = search needs
+
+returns : tie.Need-returns
+returns c = sym (open-breaks _ _ (c .before .before .before .before .before .args .map .now) (c .before .reading .given .0 .0) (sym (c .before .before .before .read .ensures) ∙ c .before .reading .given .1))
+
+returns-2 : tie.Need-returns-2
+returns-2 c = c .matched .ensures ∙ sym (open-holds _ _ (c .before .before .before .before .before .before .args .map .now) (c .before .before .reading2 .given .0 .0) (sym (c .before .before .before .before .read .ensures) ∙ c .before .before .reading2 .given .1))
+
+pub open-spec : {M : Type 1} → statement M
+open-spec =
+    tie.close
+    (tie.spec
+    read-requires
+    enum-known-reading
+    enum-known-reading-2
+    matched-requires
+    returns
+    returns-2)
