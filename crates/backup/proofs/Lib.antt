@@ -2,3 +2,5 @@
 pub mod Opened
 pub mod Sameness
 pub mod Entered
+pub mod Pages
+pub mod Storing

@@ -2,8 +2,8 @@
 -- Assumes nothing.
 use mathlib.Core.Path.{_≡_}
 use mathlib.Core.Logic.{_≢_}
-use Prim.Native.Nat.{ℕ, _+_, _-_, _*_, _/_, _%_, _<_}
-use native.Mathlib.Nat.{mod-lt, add-mul, one-mul, div-add-mod', div-eq-of-lt-le}
+use Prim.Native.Nat.{ℕ, suc, _+_, _-_, _*_, _/_, _%_, _≤_, _<_}
+use native.Mathlib.Nat.{mod-lt, add-mul, one-mul, div-add-mod', div-eq-of-lt-le, suc-mul, le-div-iff-mul-le, div-lt-iff-lt-mul}
 use native.Mathlib.Omega.{arith}
 use Rattle.units.specs.Counts.{pieces}
 
@@ -28,3 +28,17 @@ module _ (size bytes : ℕ) (some : 0 < size) where
       let this : (bytes / size + 1) * size ≡ bytes / size * size + size = next-piece (bytes / size) in
       let above : (bytes / size + 1 + 1) * size ≡ (bytes / size + 1) * size + size = next-piece (bytes / size + 1) in
       div-eq-of-lt-le size (omega arith) (omega arith)
+
+  -- a piece begins before the end
+  pub piece-begins : (k : ℕ) → k < pieces size bytes → k * size < bytes
+  piece-begins k below =
+      let more : suc k ≤ pieces size bytes = omega arith in
+      let product : suc k * size ≤ bytes + (size - 1) = le-div-iff-mul-le {k = size} some .0 more in
+      omega (arith, suc-mul k size)
+
+  -- and the pieces together reach it
+  pub pieces-reach : bytes ≤ pieces size bytes * size
+  pieces-reach =
+      let below : pieces size bytes < suc (pieces size bytes) = omega arith in
+      let product : bytes + (size - 1) < suc (pieces size bytes) * size = div-lt-iff-lt-mul {k = size} some .0 below in
+      omega (arith, suc-mul (pieces size bytes) size)
