@@ -74,11 +74,7 @@ fn put_text(text: &[u8], output: &mut [u8], at: usize) -> usize
     requires { ⌜ at + length (now text) ≤ length (now output) ⌝ }
     ensures { λ r. ⌜ putOf (now (output .exit)) r ≡ put (now (output .entry)) at (now (text .entry)) ⌝ }
 {
-    let mut i: usize = 0;
-    while i < text.len() {
-        output[at + i] = text[i];
-        i += 1;
-    }
+    units::put_part(text, output, at);
     at + text.len()
 }
 

@@ -9,7 +9,8 @@ use native.Mathlib.Numerals.{add-one}
 use native.Mathlib.Omega.{arith}
 use lib.ListN.{length, take, drop, set, length-append, length-set}
 use lib.Seq.{sets, sets-eq, length-sets, length-take-le, set-comm, take-at, drop-at}
-use Rattle.units.specs.Writing.{written, Put, putOf, put}
+use borrow.Author.Tests.{le-leb, lt-leb}
+use Rattle.units.specs.Writing.{written, partPut, Put, putOf, put}
 
 -- element by element, from the first of the new part on
 pub written-sets : (old : List ℕ) (at : ℕ) (new : List ℕ) → at + length new ≤ length old → written old at new ≡ sets old at new
@@ -107,3 +108,12 @@ written-over front part back at new here long =
     let end : length (front ++ part) ≡ at + length new = omega (arith, length-append front part) in
     ap₂ (λ (p q : List ℕ). p ++ (new ++ q)) (take-at front (part ++ back) at here)
     (ap (drop (at + length new)) (sym (append-assoc front part back)) ∙ drop-at (front ++ part) back (at + length new) end)
+
+module _ (part old : List ℕ) (at : ℕ) where
+  pub part-put : at + length part ≤ length old → partPut part old at ≡ written old at part
+  unfolding partPut
+  part-put fits = simp (le-leb _ _ fits)
+
+  pub part-not-put : length old < at + length part → partPut part old at ≡ old
+  unfolding partPut
+  part-not-put short = simp (lt-leb _ _ short)

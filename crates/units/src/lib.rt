@@ -1,7 +1,8 @@
-// Counts that carry their own name, the sizes that are allowed, and a refusal's number with the value beside it.
+// Counts that carry their own name, the sizes that are allowed, a refusal's number with the value beside it, and a part put into a buffer.
 ghost use mathlib.Core.Path.{_≡_};
 ghost use Rattle.units.specs.Counts.{symbolsIn, bytesIn, pagesIn, exponentAt};
 ghost use Rattle.units.specs.Sizes.{nAllowed, pageAllowed, objectAllowed, bucketAllowed, captionAllowed};
+ghost use Rattle.units.specs.Writing.{partPut};
 
 pub struct Bytes {
     pub count: usize,
@@ -162,4 +163,21 @@ pub fn refused(number: u32, value: usize) -> Filled
 pub enum Listed {
     Numbers(usize),
     Refused(Refusal),
+}
+
+// A part written over what stood there. Where there is no room for it, all stays as it was.
+pub fn put_part(part: &[u8], buffer: &mut [u8], at: usize)
+    ensures { λ _. ⌜ now (buffer .exit) ≡ partPut (now (part .entry)) (now (buffer .entry)) at ⌝ }
+{
+    if buffer.len() < at {
+        return;
+    }
+    if buffer.len() - at < part.len() {
+        return;
+    }
+    let mut i: usize = 0;
+    while i < part.len() {
+        buffer[at + i] = part[i];
+        i += 1;
+    }
 }

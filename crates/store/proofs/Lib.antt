@@ -1,0 +1,1 @@
+-- The laws of steps and stores.
