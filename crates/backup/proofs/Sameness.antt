@@ -1,12 +1,19 @@
--- Two signatures that are the same component by component are one signature.
+-- Two signatures that are the same component by component are one signature; and what it takes to say that a page agrees with its entry.
 -- Assumes nothing.
-use mathlib.Core.Path.{_≡_, refl, sym, ap, _∙_}
+use mathlib.Core.Path.{_≡_, refl, sym, ap, ap₂, _∙_}
 use mathlib.Core.Bool.{Bool, true, false, _&&_}
+use mathlib.Core.List.{List}
+use Prim.Native.Nat.{ℕ}
 use lib.Dec.{eqb}
 use borrow.Author.Tests.{eqb-true, eq-eqb}
+use Rattle.signature.specs.Kinds.{wide}
+use Rattle.signature.specs.Operations.{own}
 use Rattle.signature.specs.declared.Signature.{Signature}
+use Rattle.map.specs.Buckets.{pageAt}
+use Rattle.map.specs.declared.Header.{Header}
+use Rattle.map.specs.declared.Entry.{Entry}
 use Rattle.map.proofs.Fields.{halves}
-use Rattle.backup.specs.Backups.{same}
+use Rattle.backup.specs.Backups.{same, agrees}
 
 pub four-of-five : (a b c d e : Bool) → a ≡ true → b ≡ true → c ≡ true → d ≡ true → (a && b && c && d && e) ≡ e
 four-of-five a b c d e p q r s = simp (p, q, r, s)
@@ -31,3 +38,10 @@ is-same a b e =
     ap (same a) (sym e)
     ∙ four-of-five _ _ _ _ _ (eq-eqb (a .n) (a .n) refl) (eq-eqb (a .s1) (a .s1) refl) (eq-eqb (a .s2) (a .s2) refl) (eq-eqb (a .s3) (a .s3) refl)
     ∙ eq-eqb (a .s4) (a .s4) refl
+
+-- a page's test, from what was found of the page and of its entry
+pub agrees-by : (h : Header) (entry : ℕ → Entry) (bucket : List ℕ) (k : ℕ) (page : List ℕ) (s : Signature) (e : Entry) (r : Bool)
+    → page ≡ pageAt (h .page .count) bucket k → s ≡ own wide (h .n) page → e ≡ entry k → r ≡ same s (e .signature) → agrees h entry bucket k ≡ r
+unfolding agrees
+agrees-by h entry bucket k page s e r cut signed found told =
+    ap₂ (λ (a : Signature) (b : Entry). same a (b .signature)) (ap (own wide (h .n)) (sym cut) ∙ sym signed) (sym found) ∙ sym told

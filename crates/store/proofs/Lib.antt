@@ -1,1 +1,2 @@
 -- The laws of steps and stores.
+pub mod Passing

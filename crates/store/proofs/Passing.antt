@@ -1,0 +1,75 @@
+-- One page of a store in the map's bytes: a kept page changes nothing, and a written one its bytes in the image and its entry in the map.
+-- Assumes nothing.
+use mathlib.Core.Path.{_≡_, sym, ap, ap₂, _∙_}
+use mathlib.Core.Bool.{Bool, true, false, cond, _&&_}
+use mathlib.Core.List.{List}
+use Prim.Native.Nat.{ℕ, suc, _*_, _%_, _≤_, _<_}
+use native.Mathlib.Omega.{arith}
+use lib.Dec.{leb, eqb}
+use lib.ListN.{length}
+use borrow.Author.Tests.{leb-true}
+use Rattle.units.specs.Writing.{written}
+use Rattle.units.proofs.Pieces.{piece-begins}
+use Rattle.signature.specs.Objects.{Octets}
+use Rattle.map.specs.Buckets.{pageAt}
+use Rattle.map.specs.Files.{pages, file, entryPut}
+use Rattle.map.specs.Making.{madeEntry}
+use Rattle.map.specs.Reading.{reading, entryAt}
+use Rattle.map.specs.declared.Header.{Header}
+use Rattle.map.specs.declared.Entry.{Entry}
+use Rattle.map.specs.declared.Reading.the-variants.{Holds}
+use Rattle.map.proofs.Contents.{Sized}
+use Rattle.map.proofs.Fields.{halves}
+use Rattle.map.proofs.Holding.{holds-sized, holds-held}
+use Rattle.map.proofs.MadeMaps.{pages-most, bucket-most}
+use Rattle.map.proofs.Maps.{made-held}
+use Rattle.map.proofs.Readback.{file-of-reading}
+use Rattle.backup.specs.Backups.{Backup, backupIn, agrees, pageWritten}
+use Rattle.backup.proofs.Entered.{replaced, entry-put-file}
+use Rattle.backup.proofs.Storing.{page-kept, page-written}
+use Rattle.store.specs.Steps.{Stepped, passedTo, passing}
+use Rattle.store.specs.declared.Answer.{Answer}
+use Rattle.store.specs.declared.Answer.the-variants.{Kept, Written}
+
+abbrev pub passedOf : Answer → ℕ → List ℕ → List ℕ → Stepped
+passedOf answer k image map = record { answer = answer; next = record { page = suc k }; image = image; map = map }
+
+module _ (h : Header) (table image map : List ℕ) (k : ℕ) (octets : Octets map) (holds : reading map ≡ Holds h) where
+  pub kept-passing : agrees h (entryAt (h .n) map) table k ≡ true → passing h table image map k ≡ passedOf (Kept k) k image map
+  unfolding passing
+  kept-passing e =
+      ap₂ (λ (t : Bool) (b : Backup). passedTo h (cond t (Kept k) (Written k)) k b) e (page-kept h table (backupIn (h .n) image map) k e)
+      ∙ ap (passedOf (Kept k) k image) (file-of-reading map octets h holds)
+
+  module _ (table-octets : Octets table) (inside : k < pages h) where
+    entry-put-map : entryPut (madeEntry (h .n) (h .page .count) table k) map k ≡ file h (replaced (entryAt (h .n) map) k (madeEntry (h .n) (h .page .count) table k))
+    entry-put-map =
+        ap (λ (l : List ℕ). entryPut (madeEntry (h .n) (h .page .count) table k) l k) (sym (file-of-reading map octets h holds))
+        ∙ entry-put-file h (entryAt (h .n) map) (holds-sized map h holds) (holds-held map h holds octets) k inside _ (made-held (h .n) (h .page .count) table table-octets k)
+
+    pub written-passing : agrees h (entryAt (h .n) map) table k ≡ false
+        → passing h table image map k
+        ≡ passedOf (Written k) k (written image (k * h .page .count) (pageAt (h .page .count) table k)) (entryPut (madeEntry (h .n) (h .page .count) table k) map k)
+    unfolding passing pageWritten
+    written-passing e =
+        ap₂ (λ (t : Bool) (b : Backup). passedTo h (cond t (Kept k) (Written k)) k b) e (page-written h table (backupIn (h .n) image map) k e)
+        ∙ ap (passedOf (Written k) k (written image (k * h .page .count) (pageAt (h .page .count) table k))) (sym entry-put-map)
+
+-- sizes of a map that was read
+
+module _ (h : Header) (sized : Sized h) where
+  pub some-page : 0 < h .page .count
+  some-page =
+      let two : 2 ≤ h .page .count = 
+      leb-true 2 _ (halves (eqb (h .page .count % 2) 0) _ (halves (eqb (h .page .count % 2) 0 && leb 2 (h .page .count)) _ (sized .page-fits) .0) .1) in
+      omega arith
+
+  pub few-pages : pages h ≤ 4096
+  few-pages = pages-most (h .bucket .count) (pages h) (sized .bucket-fits)
+
+  -- a page begins in the bucket
+  pub page-starts : (k : ℕ) → k < pages h → k * h .page .count < h .bucket .count
+  page-starts k inside = piece-begins (h .page .count) (h .bucket .count) some-page k inside
+
+  pub short-bucket : h .bucket .count ≤ 16777216
+  short-bucket = bucket-most (h .bucket .count) (pages h) (sized .bucket-fits)

@@ -1,0 +1,125 @@
+use Rattle.store.proofs.Passing.{passedOf}
+use Rattle.store.specs.declared.Answer.the-variants.{Kept, Written}
+use Rattle.store.specs.Steps.{Stepped}
+use Rattle.backup.proofs.Pages.{page-length}
+use Rattle.map.specs.declared.Entry.{Entry}
+use Rattle.map.specs.Making.{madeEntry}
+use Rattle.map.specs.Files.{entryPut}
+use Rattle.map.specs.Buckets.{pageAt}
+use Rattle.signature.specs.declared.Signature.{Signature}
+use Rattle.signature.specs.Operations.{own}
+use Rattle.signature.specs.Kinds.{wide}
+use Rattle.units.specs.Writing.{written}
+use Prim.Native.Nat.{_-_, min}
+use Rattle.store.proofs.Passing.{kept-passing, written-passing, few-pages, page-starts, short-bucket}
+use Rattle.backup.proofs.Sameness.{agrees-by}
+use Rattle.backup.specs.Backups.{agrees}
+use Rattle.map.proofs.Holding.{holds-sized}
+use Rattle.map.proofs.Contents.{Sized}
+use Rattle.map.specs.declared.Header.{Header}
+use Rattle.map.specs.Reading.{entryAt}
+use Rattle.map.specs.Files.{pages}
+use Rattle.units.proofs.Writing.{part-put}
+use lib.ListN.{length}
+use native.Mathlib.Omega.{arith}
+use native.Mathlib.Numerals.{add-one}
+use Prim.Native.Nat.{ℕ, suc, _+_, _*_, _≤_, _<_}
+use mathlib.Core.List.{List}
+use mathlib.Core.Bool.{true, false}
+use mathlib.Core.Path.{_≡_, sym, ap, ap₂, _∙_}
+use borrow.Author.Needs.{needs}
+use Rattle.store.proofs.pass.Statement.{statement}
+use Rattle.store.proofs.pass.Tie as tie
+use Rattle.store.proofs.pass.Reads as reads
+use Rattle.store.proofs.pass.Lts as lts
+use Rattle.backup.proofs.same.Reads as same-reads
+use Rattle.map.proofs.entry_at.Reads as entry-at-reads
+use Rattle.map.proofs.page_at.Reads as page-at-reads
+use Rattle.map.proofs.put_entry.Reads as put-entry-reads
+use Rattle.signature.proofs.own.Reads as own-reads
+use Rattle.units.proofs.put_part.Reads as put-part-reads
+
+add-put-part : tie.Need-add-put-part
+add-put-part c =
+    let few : _ ≤ 4096 = few-pages (c .before .before .before .args .h) (holds-sized _ (c .before .before .before .args .h) (c .before .before .before .pre .0)) in
+    omega (arith, c .before .before .before .pre .3)
+
+page-at-requires : tie.Need-page-at-requires
+page-at-requires c κs = search needs
+
+own-requires : tie.Need-own-requires
+own-requires c κs = search needs
+
+entry-at-requires : tie.Need-entry-at-requires
+entry-at-requires c κs = search needs
+
+same-requires : tie.Need-same-requires
+same-requires c κs = search needs
+
+same-length : tie.Need-same-length
+same-length c = search needs
+
+returns : tie.Need-returns
+returns c =
+    let args : _ = c .before .before .before .before .before .before .before .before .before .args in
+    let agreed : agrees (args .h) (entryAt (args .h .n) (args .map .now)) (args .table .now) (args .k) ≡ true =
+    agrees-by _ _ _ _ _ _ _ _ (c .before .before .before .before .before .page-at .ensures) (c .before .before .before .before .own .ensures) (c .before .before .entry-at .ensures) (c .before .same .ensures) ∙ c .if1 .taken in
+    ap {B = Stepped} (λ (p : ℕ). record { answer = Kept (args .k); next = record { page = p }; image = args .image .now; map = args .map .now }) (add-one (args .k))
+    ∙ sym (kept-passing (args .h) (args .table .now) (args .image .now) (args .map .now) (args .k) (λ i. c .before .before .before .before .before .before .slice-known2 .given i .fits) (c .before .before .before .before .before .before .before .before .before .pre .0) agreed)
+
+mul-put-part : tie.Need-mul-put-part
+mul-put-part c =
+    let args : _ = c .before .before .before .before .before .before .before .before .before .before .before .args in
+    let sized : Sized (args .h) = holds-sized _ (args .h) (c .before .before .before .before .before .before .before .before .before .before .before .pre .0) in
+    let starts : args .k * args .h .page .count < args .h .bucket .count = page-starts (args .h) sized (args .k) (c .before .before .before .before .before .before .before .before .before .before .before .pre .3) in
+    let short : args .h .bucket .count ≤ 16777216 = short-bucket (args .h) sized in
+    record { fits = omega arith }
+
+put-part-requires : tie.Need-put-part-requires
+put-part-requires c κs = search needs
+
+put-entry-requires : tie.Need-put-entry-requires
+put-entry-requires c κs = search needs
+
+same-length-2 : tie.Need-same-length-2
+same-length-2 c = search needs
+
+same-length-3 : tie.Need-same-length-3
+same-length-3 c = search needs
+
+returns-2 : tie.Need-returns-2
+unfolding madeEntry
+returns-2 c =
+    let args : _ = c .before .before .before .before .before .before .before .before .before .before .before .before .before .before .before .before .before .before .args in
+    let page : ℕ = args .h .page .count in
+    let image : List ℕ = args .image .now in
+    let agreed : agrees (args .h) (entryAt (args .h .n) (args .map .now)) (args .table .now) (args .k) ≡ false =
+    agrees-by _ _ _ _ _ _ _ _ (c .before .before .before .before .before .before .before .before .before .before .before .before .before .before .page-at .ensures) (c .before .before .before .before .before .before .before .before .before .before .before .before .before .own .ensures) (c .before .before .before .before .before .before .before .before .before .before .before .entry-at .ensures) (c .before .before .before .before .before .before .before .before .before .before .same .ensures) ∙ c .before .before .before .before .before .before .before .before .before .if1 .left in
+    let cut : c .before .before .before .before .before .before .before .before .before .before .before .before .before .before .page-at .result .now ≡ pageAt page (args .table .now) (args .k) = c .before .before .before .before .before .before .before .before .before .before .before .before .before .before .page-at .ensures in
+    let starts : args .k * page < args .h .bucket .count = page-starts (args .h) (holds-sized _ (args .h) (c .before .before .before .before .before .before .before .before .before .before .before .before .before .before .before .before .before .before .pre .0)) (args .k) (c .before .before .before .before .before .before .before .before .before .before .before .before .before .before .before .before .before .before .pre .3) in
+    let long : length (c .before .before .before .before .before .before .before .before .before .before .before .before .before .before .page-at .result .now) ≡ min page (length (args .table .now) - args .k * page) = ap length cut ∙ page-length page (args .table .now) (args .k) in
+    let fits : args .k * page + length (c .before .before .before .before .before .before .before .before .before .before .before .before .before .before .page-at .result .now) ≤ length image = omega (arith, c .before .before .before .before .before .before .before .before .before .before .before .before .before .before .before .before .before .before .pre .1, c .before .before .before .before .before .before .before .before .before .before .before .before .before .before .before .before .before .before .pre .2) in
+    ap {B = Stepped} (λ (p : ℕ). record { answer = Written (args .k); next = record { page = p }; image = c .before .before .before .before .before .before .put-part .last .1 .0; map = c .before .before .put-entry .last .1 .0 }) (add-one (args .k))
+    ∙ ap₂ (passedOf (Written (args .k)) (args .k))
+    (c .before .before .before .before .before .before .put-part .ensures ∙ part-put _ image _ fits ∙ ap (written image (args .k * page)) cut)
+    (c .before .before .put-entry .ensures
+    ∙ ap (λ (s : Signature). entryPut (record { tag = 4; signature = s }) (args .map .now) (args .k)) (c .before .before .before .before .before .before .before .before .before .before .before .before .before .own .ensures ∙ ap (own wide (args .h .n)) cut))
+    ∙ sym (written-passing (args .h) (args .table .now) image (args .map .now) (args .k) (λ i. c .before .before .before .before .before .before .before .before .before .before .before .before .before .before .before .slice-known2 .given i .fits) (c .before .before .before .before .before .before .before .before .before .before .before .before .before .before .before .before .before .before .pre .0) (λ i. c .before .before .before .before .before .before .before .before .before .before .before .before .before .before .before .before .before .shared-slice-known .given i .fits) (c .before .before .before .before .before .before .before .before .before .before .before .before .before .before .before .before .before .before .pre .3) agreed)
+
+pub pass-spec : {M : Type 1} → statement M
+pass-spec =
+    tie.close
+    (tie.spec
+    add-put-part
+    page-at-requires
+    own-requires
+    entry-at-requires
+    same-requires
+    same-length
+    returns
+    mul-put-part
+    put-part-requires
+    put-entry-requires
+    same-length-2
+    same-length-3
+    returns-2)
