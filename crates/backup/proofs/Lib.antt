@@ -4,3 +4,4 @@ pub mod Sameness
 pub mod Entered
 pub mod Pages
 pub mod Storing
+pub mod Alike

@@ -1,2 +1,4 @@
 -- The laws of steps and stores.
 pub mod Passing
+pub mod Underway
+pub mod Tags

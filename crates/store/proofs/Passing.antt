@@ -60,7 +60,7 @@ module _ (h : Header) (table image map : List ℕ) (k : ℕ) (octets : Octets ma
 module _ (h : Header) (sized : Sized h) where
   pub some-page : 0 < h .page .count
   some-page =
-      let two : 2 ≤ h .page .count = 
+      let two : 2 ≤ h .page .count =
       leb-true 2 _ (halves (eqb (h .page .count % 2) 0) _ (halves (eqb (h .page .count % 2) 0 && leb 2 (h .page .count)) _ (sized .page-fits) .0) .1) in
       omega arith
 

@@ -14,6 +14,8 @@ use Rattle.map.specs.Reading.{headerOf, entryAt}
 use Rattle.map.specs.declared.Header.{Header}
 use Rattle.backup.specs.Openings.{openTests}
 use Rattle.backup.specs.Backups.{Backup, backupIn, stored, changed}
+use Rattle.store.specs.declared.Answer.{Answer}
+use Rattle.store.specs.declared.Answer.the-variants as Answer
 
 pub record Stored : Type 0 where
   pub answer : Listed
@@ -32,6 +34,13 @@ abbrev pub storeUnless : Verdict → Header → List ℕ → List ℕ → List �
 storeUnless Verdict.Allowed h table image map list =
     storedTo h (stored h table (backupIn (h .n) image map) (pages h)) (changed h table (entryAt (h .n) map) (pages h)) list
 storeUnless (Verdict.Refused r) h table image map list = storedOf (Refused r) image map list
+
+-- what a store answers whose last step answered so
+abbrev pub endedBy : Answer → ℕ → Listed
+endedBy (Answer.Kept k) found = Numbers found
+endedBy (Answer.Written k) found = Numbers found
+endedBy Answer.Finished found = Numbers found
+endedBy (Answer.Refused r) found = Refused r
 
 -- the list has room for as many numbers as there are pages
 abbrev pub listTests : Header → List ℕ → List Test

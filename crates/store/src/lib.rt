@@ -6,7 +6,7 @@ ghost use Rattle.map.specs.Files.{pages as Header·pages};
 ghost use Rattle.map.specs.Reading.{reading};
 ghost use Rattle.map.specs.declared.Reading.the-variants.{Holds};
 ghost use Rattle.store.specs.Steps.{steppedOf, passing, openStep, stepping};
-ghost use Rattle.store.specs.Stores.{storedOf, openStore, storing};
+ghost use Rattle.store.specs.Stores.{storedOf, endedBy, openStore, storing};
 use backup::Opening;
 use map::Entry;
 use map::Header;
@@ -152,7 +152,9 @@ fn store_on(h: Header, table: &[u8], image: &mut [u8], map: &mut [u8], list: &mu
 }
 
 // What a store answers whose last step answered so.
-fn ended(answer: Answer, found: usize) -> Listed {
+fn ended(answer: Answer, found: usize) -> Listed
+    ensures { λ r. ⌜ r ≡ endedBy answer found ⌝ }
+{
     match answer {
         Answer::Refused(r) => Listed::Refused(r),
         Answer::Kept(_) | Answer::Written(_) | Answer::Finished => Listed::Numbers(found),

@@ -1,3 +1,30 @@
+use Rattle.store.proofs.Underway.{all-through}
+use Rattle.store.specs.declared.Place.{Place}
+use Rattle.store.specs.declared.Answer.the-variants.{Finished}
+use Rattle.store.specs.declared.Answer.{Answer}
+use Rattle.units.specs.Writing.{written}
+use Rattle.map.specs.Reading.{entryAt}
+use Rattle.map.specs.Files.{file}
+use Rattle.backup.specs.Backups.{Backup, backupIn, stored, changed}
+use Rattle.units.specs.declared.Listed.the-variants.{Numbers, Refused}
+use Rattle.units.specs.declared.Listed.{Listed}
+use Rattle.store.proofs.Underway.{on-kept, on-written, on-neither}
+use Rattle.store.proofs.Underway.{Ready, Passed, Done, taken, none-through, none-noted, through-reads, through-length, through-map-length, noted-below, noted-length, noted-kept, noted-written}
+use Rattle.store.proofs.Passing.{few-pages}
+use Rattle.store.specs.Stores.{openStore, storedOf, endedBy}
+use Rattle.map.proofs.Holding.{holds-sized}
+use borrow.Author.Tests.{lt-ltb, le-ltb}
+use borrow.Author.Needs.{needs}
+use lib.ListN.{length}
+use native.Mathlib.Omega.{arith}
+use Prim.Native.Nat.{ℕ, suc, _+_, _-_, _*_, _≤_, _<_}
+use mathlib.Core.List.{List}
+use mathlib.Core.Bool.{true, false}
+use mathlib.Core.Logic.{_⊎_, ⊎-elim}
+use mathlib.Core.Path.{_≡_, refl, sym, ap, ap₂, _∙_, subst}
+use Rattle.store.proofs.Underway.{Through, Noted}
+use Rattle.map.specs.Files.{pages}
+use Prim.Native.Nat.{_-_}
 use Rattle.store.proofs.store_on.Statement.{statement}
 use Rattle.store.proofs.store_on.Tie as tie
 use Rattle.store.proofs.store_on.Reads as reads
@@ -7,64 +34,122 @@ use Rattle.store.proofs.Place.step_on.Reads as step-on-reads
 use Rattle.store.proofs.ended.Reads as ended-reads
 
 abbrev Inv-loop : tie.InvT-loop
-Inv-loop h table image₀ map₀ list₀ count place₀ found₀ image map list place found = ?
+Inv-loop h table image₀ map₀ list₀ count place₀ found₀ image map list place found =
+    Through h table image₀ map₀ (place .page) image map × Noted h table map₀ list₀ (place .page) list found
 
 abbrev μ-loop : tie.MeasureT-loop
-μ-loop h table image₀ map₀ list₀ count place₀ found₀ image map list place found = ?
+μ-loop h table image₀ map₀ list₀ count place₀ found₀ image map list place found = pages h - place .page
+
+ready : (c : tie.After-place Inv-loop μ-loop) → Ready (c .before .before .before .before .before .before .before .before .before .before .before .before .before .before .before .args .h) (c .before .before .before .before .before .before .before .before .before .before .before .before .before .before .before .args .table .now) (c .before .before .before .before .before .before .before .before .before .before .before .before .before .before .before .args .image .now) (c .before .before .before .before .before .before .before .before .before .before .before .before .before .before .before .args .map .now)
+ready c =
+    record {
+      table-octets = λ i. c .before .before .before .before .before .before .before .before .before .before .before .before .before .before .shared-slice-known .given i .fits;
+      map-octets = λ i. c .before .before .before .before .before .before .before .before .before .before .before .before .slice-known2 .given i .fits;
+      holds = c .before .before .before .before .before .before .before .before .before .before .before .before .before .before .before .pre .0;
+      table-length = c .before .before .before .before .before .before .before .before .before .before .before .before .before .before .before .pre .1;
+      image-length = c .before .before .before .before .before .before .before .before .before .before .before .before .before .before .before .pre .2;
+    }
 
 pages-requires : tie.Need-pages-requires Inv-loop μ-loop
-pages-requires c κs = ?
+pages-requires c κs = search needs
 
 returns : tie.Need-returns Inv-loop μ-loop
-returns c = ?
+unfolding openStore
+returns c =
+    let args : _ = c .before .before .before .before .before .before .args in
+    let short : length (args .list .now) < pages (args .h) = omega (arith, c .before .pages .ensures) in
+    ap (λ (k : ℕ). storedOf (Refused (record { number = 7; value = k })) (args .image .now) (args .map .now) (args .list .now)) (c .before .pages .ensures)
+    ∙ sym (simp (lt-ltb _ _ short))
 
 loop-holds : tie.Need-loop-holds Inv-loop μ-loop
-loop-holds c = ?
+loop-holds c =
+    (none-through _ _ _ _ (record { table-octets = λ i. c .before .before .before .before .before .shared-slice-known .given i .fits; map-octets = λ i. c .before .before .before .slice-known2 .given i .fits; holds = c .before .before .before .before .before .before .pre .0; table-length = c .before .before .before .before .before .before .pre .1; image-length = c .before .before .before .before .before .before .pre .2 }),
+    none-noted _ _ _ _)
 
 step-on-requires : tie.Need-step-on-requires Inv-loop μ-loop
-step-on-requires c κs = ?
+step-on-requires c κs =
+    let args : _ = c .before .before .before .before .before .before .before .before .before .args in
+    let r : Ready (args .h) (args .table .now) (args .image .now) (args .map .now) =
+    record { table-octets = λ i. c .before .before .before .before .before .before .before .before .shared-slice-known .given i .fits; map-octets = λ i. c .before .before .before .before .before .before .slice-known2 .given i .fits; holds = c .before .before .before .before .before .before .before .before .before .pre .0; table-length = c .before .before .before .before .before .before .before .before .before .pre .1; image-length = c .before .before .before .before .before .before .before .before .before .pre .2 } in
+    (through-reads _ _ _ _ r _ _ _ (c .before .before .loop .inv .0), c .before .before .before .before .before .before .before .before .before .pre .1, through-length _ _ _ _ r _ _ _ (c .before .before .loop .inv .0))
 
 enum-known-answer : tie.Need-enum-known-answer Inv-loop μ-loop
-enum-known-answer c = ?
+enum-known-answer c = search needs
 
 enum-told : tie.Need-enum-told Inv-loop μ-loop
-enum-told c = ?
+enum-told c = search needs
 
 ended-requires : tie.Need-ended-requires Inv-loop μ-loop
-ended-requires c κs = ?
+ended-requires c κs = search needs
 
 same-length : tie.Need-same-length Inv-loop μ-loop
-same-length c = ?
+same-length c =
+    let d : Done _ _ _ _ (ready (c .before .before .before)) _ _ _ (c .before .before .before .before .before .before .before .before .before .before .before .loop .inv .0) _ _ _ (c .before .before .before .before .before .before .before .before .step-on .ensures) = on-neither _ _ _ _ (ready (c .before .before .before)) _ _ _ (c .before .before .before .before .before .before .before .before .before .before .before .loop .inv .0) _ _ _ (c .before .before .before .before .before .before .before .before .step-on .ensures) (c .before .match2 .keys2) (c .before .before .match .keys2) in
+    ap length (d .image-kept) ∙ through-length _ _ _ _ (ready (c .before .before .before)) _ _ _ (c .before .before .before .before .before .before .before .before .before .before .before .loop .inv .0) ∙ sym (c .before .before .before .before .before .before .before .before .before .before .before .before .before .before .before .before .before .before .pre .2)
 
 same-length-2 : tie.Need-same-length-2 Inv-loop μ-loop
-same-length-2 c = ?
+same-length-2 c =
+    let d : Done _ _ _ _ (ready (c .before .before .before)) _ _ _ (c .before .before .before .before .before .before .before .before .before .before .before .loop .inv .0) _ _ _ (c .before .before .before .before .before .before .before .before .step-on .ensures) = on-neither _ _ _ _ (ready (c .before .before .before)) _ _ _ (c .before .before .before .before .before .before .before .before .before .before .before .loop .inv .0) _ _ _ (c .before .before .before .before .before .before .before .before .step-on .ensures) (c .before .match2 .keys2) (c .before .before .match .keys2) in
+    ap length (d .map-kept) ∙ through-map-length _ _ _ _ (ready (c .before .before .before)) _ _ _ (c .before .before .before .before .before .before .before .before .before .before .before .loop .inv .0)
 
 same-length-3 : tie.Need-same-length-3 Inv-loop μ-loop
-same-length-3 c = ?
+same-length-3 c = noted-length _ _ _ _ _ _ _ (c .before .before .before .before .before .before .before .before .before .before .before .loop .inv .1) (omega (arith, c .before .before .before .before .before .before .before .before .before .before .before .loop .inv .0 .within, c .before .before .before .before .before .before .before .before .before .before .before .before .before .pages .ensures, c .before .before .before .before .before .before .before .before .before .before .before .before .if1 .left))
 
 returns-2 : tie.Need-returns-2 Inv-loop μ-loop
-returns-2 c = ?
+returns-2 c =
+    let args : _ = c .before .before .before .before .before .before .before .before .before .before .before .before .before .before .before .before .before .before .args in
+    let d : Done _ _ _ _ (ready (c .before .before .before)) _ _ _ (c .before .before .before .before .before .before .before .before .before .before .before .loop .inv .0) _ _ _ (c .before .before .before .before .before .before .before .before .step-on .ensures) = on-neither _ _ _ _ (ready (c .before .before .before)) _ _ _ (c .before .before .before .before .before .before .before .before .before .before .before .loop .inv .0) _ _ _ (c .before .before .before .before .before .before .before .before .step-on .ensures) (c .before .match2 .keys2) (c .before .before .match .keys2) in
+    let enough : pages (args .h) ≤ length (args .list .now) = omega (arith, c .before .before .before .before .before .before .before .before .before .before .before .before .before .pages .ensures, c .before .before .before .before .before .before .before .before .before .before .before .before .if1 .left) in
+    let answer : c .ended .result ≡ Numbers (c .before .before .before .before .before .before .before .before .before .before .before .loop .found) = c .ended .ensures ∙ ap (λ (a : Answer). endedBy a (c .before .before .before .before .before .before .before .before .before .before .before .loop .found)) (d .told) in
+    ap₂ (λ (i m : List ℕ). storedOf (c .ended .result) i m (c .before .before .before .before .before .before .before .before .before .before .before .loop .list)) (d .image-kept) (d .map-kept)
+    ∙ ap (λ (a : Listed). storedOf a (c .before .before .before .before .before .before .before .before .before .before .before .loop .image) (c .before .before .before .before .before .before .before .before .before .before .before .loop .map) (c .before .before .before .before .before .before .before .before .before .before .before .loop .list)) answer
+    ∙ all-through _ _ _ _ _ _ _ _ _ _ (d .all) enough (c .before .before .before .before .before .before .before .before .before .before .before .loop .inv .0) (c .before .before .before .before .before .before .before .before .before .before .before .loop .inv .1)
 
 loop-less : tie.Need-loop-less Inv-loop μ-loop
-loop-less c = ?
+loop-less c =
+    let p : _ = on-kept _ _ _ _ (ready (c .before .before .before)) _ _ _ (c .before .before .before .before .before .before .before .before .before .before .before .loop .inv .0) _ _ _ (c .before .before .before .before .before .before .before .before .step-on .ensures) _ (c .enum-told .given .1) in
+    let up : c .before .before .before .before .before .before .before .before .step-on .result .next .page ≡ suc (c .before .before .before .before .before .before .before .before .before .before .before .loop .place .page) = p .0 .up in
+    let inside : c .before .before .before .before .before .before .before .before .before .before .before .loop .place .page < pages (c .before .before .before .before .before .before .before .before .before .before .before .before .before .before .before .before .before .before .args .h) = p .0 .inside in
+    omega arith
 
 loop-again : tie.Need-loop-again Inv-loop μ-loop
-loop-again c = ?
+loop-again c =
+    let p : _ = on-kept _ _ _ _ (ready (c .before .before .before)) _ _ _ (c .before .before .before .before .before .before .before .before .before .before .before .loop .inv .0) _ _ _ (c .before .before .before .before .before .before .before .before .step-on .ensures) _ (c .enum-told .given .1) in
+    (p .0 .next, noted-kept _ _ _ _ _ _ _ (c .before .before .before .before .before .before .before .before .before .before .before .loop .inv .1) _ (p .0 .up) (p .1))
 
 mul-list : tie.Need-mul-list Inv-loop μ-loop
-mul-list c = ?
+mul-list c =
+    let few : pages (c .before .before .before .before .before .before .before .before .before .before .before .before .before .before .before .before .before .before .args .h) ≤ 4096 = few-pages (c .before .before .before .before .before .before .before .before .before .before .before .before .before .before .before .before .before .before .args .h) (holds-sized _ (c .before .before .before .before .before .before .before .before .before .before .before .before .before .before .before .before .before .before .args .h) (c .before .before .before .before .before .before .before .before .before .before .before .before .before .before .before .before .before .before .pre .0)) in
+    let found : c .before .before .before .before .before .before .before .before .before .before .before .loop .found ≤ c .before .before .before .before .before .before .before .before .before .before .before .loop .place .page = noted-below _ _ _ _ _ _ _ (c .before .before .before .before .before .before .before .before .before .before .before .loop .inv .1) in
+    record { fits = omega (arith, c .before .before .before .before .before .before .before .before .before .before .before .loop .inv .0 .within) }
 
 slice-write-list : tie.Need-slice-write-list Inv-loop μ-loop
-slice-write-list c = ?
+slice-write-list c =
+    let p : _ = on-written _ _ _ _ (ready (c .before .before .before)) _ _ _ (c .before .before .before .before .before .before .before .before .before .before .before .loop .inv .0) _ _ _ (c .before .before .before .before .before .before .before .before .step-on .ensures) _ (c .before .answer .given .1) in
+    let inside : c .before .before .before .before .before .before .before .before .before .before .before .loop .place .page < pages (c .before .before .before .before .before .before .before .before .before .before .before .before .before .before .before .before .before .before .args .h) = p .0 .inside in
+    let found : c .before .before .before .before .before .before .before .before .before .before .before .loop .found ≤ c .before .before .before .before .before .before .before .before .before .before .before .loop .place .page = noted-below _ _ _ _ _ _ _ (c .before .before .before .before .before .before .before .before .before .before .before .loop .inv .1) in
+    let enough : pages (c .before .before .before .before .before .before .before .before .before .before .before .before .before .before .before .before .before .before .args .h) ≤ length (c .before .before .before .before .before .before .before .before .before .before .before .before .before .before .before .before .before .before .args .list .now) = omega (arith, c .before .before .before .before .before .before .before .before .before .before .before .before .before .pages .ensures, c .before .before .before .before .before .before .before .before .before .before .before .before .if1 .left) in
+    omega (arith, noted-length _ _ _ _ _ _ _ (c .before .before .before .before .before .before .before .before .before .before .before .loop .inv .1) (omega arith))
 
 add-found : tie.Need-add-found Inv-loop μ-loop
-add-found c = ?
+add-found c =
+    let few : pages (c .before .before .before .before .before .before .before .before .before .before .before .before .before .before .before .before .before .before .args .h) ≤ 4096 = few-pages (c .before .before .before .before .before .before .before .before .before .before .before .before .before .before .before .before .before .before .args .h) (holds-sized _ (c .before .before .before .before .before .before .before .before .before .before .before .before .before .before .before .before .before .before .args .h) (c .before .before .before .before .before .before .before .before .before .before .before .before .before .before .before .before .before .before .pre .0)) in
+    let found : c .before .before .before .before .before .before .before .before .before .before .before .loop .found ≤ c .before .before .before .before .before .before .before .before .before .before .before .loop .place .page = noted-below _ _ _ _ _ _ _ (c .before .before .before .before .before .before .before .before .before .before .before .loop .inv .1) in
+    record { fits = omega (arith, c .before .before .before .before .before .before .before .before .before .before .before .loop .inv .0 .within) }
 
 loop-less-2 : tie.Need-loop-less-2 Inv-loop μ-loop
-loop-less-2 c = ?
+loop-less-2 c =
+    let p : _ = on-written _ _ _ _ (ready (c .before .before .before)) _ _ _ (c .before .before .before .before .before .before .before .before .before .before .before .loop .inv .0) _ _ _ (c .before .before .before .before .before .before .before .before .step-on .ensures) _ (c .before .answer .given .1) in
+    let up : c .before .before .before .before .before .before .before .before .step-on .result .next .page ≡ suc (c .before .before .before .before .before .before .before .before .before .before .before .loop .place .page) = p .0 .up in
+    let inside : c .before .before .before .before .before .before .before .before .before .before .before .loop .place .page < pages (c .before .before .before .before .before .before .before .before .before .before .before .before .before .before .before .before .before .before .args .h) = p .0 .inside in
+    omega arith
 
 loop-again-2 : tie.Need-loop-again-2 Inv-loop μ-loop
-loop-again-2 c = ?
+loop-again-2 c =
+    let p : _ = on-written _ _ _ _ (ready (c .before .before .before)) _ _ _ (c .before .before .before .before .before .before .before .before .before .before .before .loop .inv .0) _ _ _ (c .before .before .before .before .before .before .before .before .step-on .ensures) _ (c .before .answer .given .1) in
+    let inside : c .before .before .before .before .before .before .before .before .before .before .before .loop .place .page < pages (c .before .before .before .before .before .before .before .before .before .before .before .before .before .before .before .before .before .before .args .h) = p .0 .inside in
+    let enough : pages (c .before .before .before .before .before .before .before .before .before .before .before .before .before .before .before .before .before .before .args .h) ≤ length (c .before .before .before .before .before .before .before .before .before .before .before .before .before .before .before .before .before .before .args .list .now) = omega (arith, c .before .before .before .before .before .before .before .before .before .before .before .before .before .pages .ensures, c .before .before .before .before .before .before .before .before .before .before .before .before .if1 .left) in
+    (p .0 .next, noted-written _ _ _ _ _ _ _ (c .before .before .before .before .before .before .before .before .before .before .before .loop .inv .1) _ (p .0 .up) _ (p .2) (p .1) (omega arith))
 
 pub store-on-spec : {M : Type 1} → statement M
 store-on-spec =

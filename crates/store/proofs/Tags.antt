@@ -1,0 +1,55 @@
+-- The number that tells an answer's case in the code.
+-- Assumes nothing.
+use mathlib.Core.Path.{_≡_, refl}
+use mathlib.Core.Bool.{Bool, true, false, cond}
+use mathlib.Core.Logic.{_⊎_, ⊎-elim}
+use mathlib.Core.List.{[], _∷_}
+use Prim.Native.Nat.{ℕ}
+use native.Mathlib.Omega.{arith}
+use types.Run.{OneOf}
+use denote.Enum.Declared.{tagOf}
+use Rattle.units.specs.declared.Listed.the-variants.{Numbers}
+use Rattle.store.specs.Stores.{endedBy}
+use Rattle.store.specs.declared.Answer.{Answer}
+use Rattle.store.specs.declared.Answer.the-variants.{Kept, Written, Finished, Refused}
+use Rattle.store.proofs.Answer.{the-type}
+
+abbrev pub tag : Answer → ℕ
+tag a = tagOf the-type a
+
+-- a store that ends without a refusal
+pub not-refused : (a : Answer) (found : ℕ) → (tag a ≡ 3 → ⊥) → Numbers found ≡ endedBy a found
+not-refused (Kept k) found other = refl
+not-refused (Written k) found other = refl
+not-refused Finished found other = refl
+not-refused (Refused r) found other = absurd (other refl)
+
+three-apart : (t a b d : ℕ) → OneOf (a ∷ b ∷ d ∷ []) t → (t ≡ a → ⊥) → (t ≡ b → ⊥) → (t ≡ d → ⊥) → ⊥
+three-apart t a b d o p q r = ⊎-elim p (λ (e : (t ≡ b) ⊎ (t ≡ d)). ⊎-elim q r e) o
+
+pub below3 : (t : ℕ) → OneOf (0 ∷ 1 ∷ 2 ∷ []) t → t ≡ 3 → ⊥
+below3 t o e = three-apart t 0 1 2 o (λ a. omega arith) (λ a. omega arith) (λ a. omega arith)
+
+-- a page's answer is either kept or written
+
+module _ (k : ℕ) where
+  abbrev pub pageAnswer : Bool → Answer
+  pageAnswer b = cond b (Kept k) (Written k)
+
+  pub told-kept : (b : Bool) (j : ℕ) → Kept j ≡ pageAnswer b → b ≡ true
+  told-kept true j e = refl
+  told-kept false j e = let z : _≡_ {A = ℕ} 0 1 = cc in absurd (omega arith)
+
+  pub told-written : (b : Bool) (j : ℕ) → Written j ≡ pageAnswer b → (b ≡ false) × (j ≡ k)
+  told-written true j e = let z : _≡_ {A = ℕ} 0 1 = cc in absurd (omega arith)
+  told-written false j e = (refl, cc)
+
+  pub told-neither : (b : Bool) → OneOf (1 ∷ 2 ∷ 3 ∷ []) (tag (pageAnswer b)) → OneOf (0 ∷ 2 ∷ 3 ∷ []) (tag (pageAnswer b)) → ⊥
+  told-neither true one other = three-apart 0 1 2 3 one (omega arith) (omega arith) (omega arith)
+  told-neither false one other = three-apart 1 0 2 3 other (omega arith) (omega arith) (omega arith)
+
+pub kept-not-finished : (j : ℕ) → Kept j ≡ Finished → ⊥
+kept-not-finished j e = let z : _≡_ {A = ℕ} 0 1 = cc in omega arith
+
+pub written-not-finished : (j : ℕ) → Written j ≡ Finished → ⊥
+written-not-finished j e = let z : _≡_ {A = ℕ} 0 1 = cc in omega arith
