@@ -33,14 +33,14 @@ module _ (one other : ℕ) (map : List ℕ) where
 
 -- ---- what an answer tells
 
-opened-open : (v : Verdict) (g h : Header) → opened v g ≡ Open h → (v ≡ Verdict.Allowed) × (g ≡ h)
+pub opened-open : (v : Verdict) (g h : Header) → opened v g ≡ Open h → (v ≡ Verdict.Allowed) × (g ≡ h)
 opened-open Verdict.Allowed g h e = (refl, same-header g h e)
   where
     same-header : (a b : Header) → Open a ≡ Open b → a ≡ b
     same-header a b q = cc
 opened-open (Verdict.Refused r) g h e = let z : _≡_ {A = ℕ} 0 1 = cc in absurd (omega arith)
 
-opened-refused : (v : Verdict) (g : Header) (r : Refusal) → opened v g ≡ Refused r → v ≡ Verdict.Refused r
+pub opened-refused : (v : Verdict) (g : Header) (r : Refusal) → opened v g ≡ Refused r → v ≡ Verdict.Refused r
 opened-refused Verdict.Allowed g r e = let z : _≡_ {A = ℕ} 0 1 = cc in absurd (omega arith)
 opened-refused (Verdict.Refused s) g r e = ap Verdict.Refused (same-refusal s r e)
   where

@@ -62,9 +62,10 @@ returns c =
     ∙ sym (simp (lt-ltb _ _ short))
 
 loop-holds : tie.Need-loop-holds Inv-loop μ-loop
-loop-holds c =
-    (none-through _ _ _ _ (record { table-octets = λ i. c .before .before .before .before .before .shared-slice-known .given i .fits; map-octets = λ i. c .before .before .before .slice-known2 .given i .fits; holds = c .before .before .before .before .before .before .pre .0; table-length = c .before .before .before .before .before .before .pre .1; image-length = c .before .before .before .before .before .before .pre .2 }),
-    none-noted _ _ _ _)
+loop-holds c = (
+  none-through _ _ _ _ (record { table-octets = λ i. c .before .before .before .before .before .shared-slice-known .given i .fits; map-octets = λ i. c .before .before .before .slice-known2 .given i .fits; holds = c .before .before .before .before .before .before .pre .0; table-length = c .before .before .before .before .before .before .pre .1; image-length = c .before .before .before .before .before .before .pre .2 }),
+  none-noted _ _ _ _,
+)
 
 step-on-requires : tie.Need-step-on-requires Inv-loop μ-loop
 step-on-requires c κs =

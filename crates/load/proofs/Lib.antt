@@ -1,0 +1,2 @@
+-- The laws of loading.
+pub mod First

@@ -1,0 +1,94 @@
+use Rattle.load.specs.Loads.{asking, pageTests}
+use Rattle.backup.proofs.Opened.{Usable, open-usable, open-refused}
+use Rattle.backup.specs.Openings.{opened}
+use Rattle.backup.specs.Backups.{agrees}
+use Rattle.map.proofs.Holding.{holds-header}
+use Rattle.map.specs.declared.Header.{Header}
+use Rattle.map.specs.Reading.{headerOf, entryAt}
+use Rattle.map.specs.Files.{pages}
+use Rattle.units.specs.declared.Verdict.the-variants as Verdict
+use Rattle.units.specs.declared.Verdict.the-variants.{Allowed}
+use Rattle.units.specs.declared.Verdict.{Verdict}
+use Rattle.units.specs.Refusals.{first}
+use borrow.Author.Tests.{le-leb, lt-leb, not-true, not-false}
+use native.Mathlib.Omega.{arith}
+use Prim.Native.Nat.{ℕ, _≤_, _<_}
+use mathlib.Core.Bool.{true, false, not}
+use mathlib.Core.Path.{_≡_, sym, ap, ap₂, _∙_}
+use borrow.Author.Needs.{needs}
+use Rattle.load.proofs.open_page.Statement.{statement}
+use Rattle.load.proofs.open_page.Tie as tie
+use Rattle.load.proofs.open_page.Reads as reads
+use Rattle.load.proofs.open_page.Lts as lts
+use Rattle.backup.proofs.open.Reads as open-reads
+use Rattle.load.proofs.whole.Reads as whole-reads
+use Rattle.map.proofs.pages.Reads as pages-reads
+
+open-requires : tie.Need-open-requires
+open-requires c κs = search needs
+
+enum-known-opening : tie.Need-enum-known-opening
+enum-known-opening c = search needs
+
+enum-told : tie.Need-enum-told
+enum-told c = search needs
+
+returns : tie.Need-returns
+unfolding asking
+returns c =
+    let args : _ = c .before .before .before .before .before .args in
+    c .enum-told .given .1
+    ∙ sym (ap (λ (v : Verdict). opened v (headerOf (args .map .now)))
+    (open-refused _ _ _ (c .enum-told .given .0 .0) (sym (c .before .before .«open» .ensures) ∙ c .enum-told .given .1) (pageTests (headerOf (args .map .now)) (args .image .now) (args .map .now) (args .k))))
+
+pages-requires : tie.Need-pages-requires
+pages-requires c κs = search needs
+
+returns-2 : tie.Need-returns-2
+unfolding asking
+returns-2 c =
+    let args : _ = c .before .before .before .before .before .before .before .before .args in
+    let h : Header = c .before .before .before .opening .given .0 .0 in
+    let u : Usable _ _ _ h = open-usable _ _ _ _ (sym (c .before .before .before .before .before .«open» .ensures) ∙ c .before .before .before .opening .given .1) in
+    let past : pages h ≤ args .k = omega (arith, c .before .pages .ensures) in
+    let so : first (pageTests h (args .image .now) (args .map .now) (args .k)) ≡ Verdict.Refused (record { number = 9; value = 0 }) = simp (le-leb _ _ past) in
+    sym (ap (λ (v : Verdict). opened v (headerOf (args .map .now))) (u .rest (λ g. pageTests g (args .image .now) (args .map .now) (args .k)) ∙ so))
+
+whole-requires : tie.Need-whole-requires
+whole-requires c κs = search needs
+
+returns-3 : tie.Need-returns-3
+unfolding asking
+returns-3 c =
+    let args : _ = c .before .before .before .before .before .before .before .before .before .before .args in
+    let h : Header = c .before .before .before .before .before .opening .given .0 .0 in
+    let u : Usable _ _ _ h = open-usable _ _ _ _ (sym (c .before .before .before .before .before .before .before .«open» .ensures) ∙ c .before .before .before .before .before .opening .given .1) in
+    let inside : args .k < pages h = omega (arith, c .before .before .before .pages .ensures, c .before .before .if1 .left) in
+    let bad : agrees h (entryAt (h .n) (args .map .now)) (args .image .now) (args .k) ≡ false = sym (c .before .whole .ensures) ∙ not-true _ (c .if2 .taken) in
+    let so : first (pageTests h (args .image .now) (args .map .now) (args .k)) ≡ Verdict.Refused (record { number = 10; value = args .k }) = simp (lt-leb _ _ inside, bad) in
+    sym (ap (λ (v : Verdict). opened v (headerOf (args .map .now))) (u .rest (λ g. pageTests g (args .image .now) (args .map .now) (args .k)) ∙ so))
+
+returns-4 : tie.Need-returns-4
+unfolding asking
+returns-4 c =
+    let args : _ = c .before .before .before .before .before .before .before .before .before .before .args in
+    let h : Header = c .before .before .before .before .before .opening .given .0 .0 in
+    let u : Usable _ _ _ h = open-usable _ _ _ _ (sym (c .before .before .before .before .before .before .before .«open» .ensures) ∙ c .before .before .before .before .before .opening .given .1) in
+    let inside : args .k < pages h = omega (arith, c .before .before .before .pages .ensures, c .before .before .if1 .left) in
+    let good : agrees h (entryAt (h .n) (args .map .now)) (args .image .now) (args .k) ≡ true = sym (c .before .whole .ensures) ∙ not-false _ (c .if2 .left) in
+    let so : first (pageTests h (args .image .now) (args .map .now) (args .k)) ≡ Allowed = simp (lt-leb _ _ inside, good) in
+    sym (ap₂ opened (u .rest (λ g. pageTests g (args .image .now) (args .map .now) (args .k)) ∙ so) (holds-header _ _ (u .holds)))
+
+pub open-page-spec : {M : Type 1} → statement M
+open-page-spec =
+    tie.close
+    (tie.spec
+    open-requires
+    enum-known-opening
+    enum-told
+    returns
+    pages-requires
+    returns-2
+    whole-requires
+    returns-3
+    returns-4)

@@ -1,0 +1,2 @@
+-- What the loads answer and leave, for every input.
+pub mod Loads
