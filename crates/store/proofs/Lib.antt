@@ -2,3 +2,4 @@
 pub mod Passing
 pub mod Underway
 pub mod Tags
+pub mod Answers

@@ -1,0 +1,128 @@
+-- What holds of every step and every store: no second answer, refusals exactly when the table says, and nothing changed by them.
+-- Assumes nothing.
+use mathlib.Core.Path.{_≡_, refl, sym, ap, _∙_}
+use mathlib.Core.Logic.{_↔_}
+use mathlib.Core.Bool.{Bool, true, false, cond}
+use mathlib.Core.List.{List}
+use Prim.Native.Nat.{ℕ}
+use native.Mathlib.Omega.{arith}
+use lib.Dec.{eqb}
+use denote.Ref.{now}
+use Rattle.units.specs.Refusals.{first}
+use Rattle.units.specs.declared.Listed.{Listed}
+use Rattle.units.specs.declared.Listed.the-variants.{Numbers}
+use Rattle.units.specs.declared.Listed.the-variants as Listed
+use Rattle.units.specs.declared.Refusal.{Refusal}
+use Rattle.units.specs.declared.Verdict.{Verdict}
+use Rattle.units.specs.declared.Verdict.the-variants as Verdict
+use Rattle.units.proofs.Refusing.{Lowest, lowest-given}
+use Rattle.map.specs.Files.{pages}
+use Rattle.map.specs.Reading.{headerOf, entryAt}
+use Rattle.map.specs.declared.Header.{Header}
+use Rattle.backup.specs.Backups.{agrees}
+use Rattle.store.specs.Steps.{Stepped, staying, passing, stepUnless, stepTests, stepping}
+use Rattle.store.specs.Stores.{Stored, storedOf, storeUnless, storeTests, storing}
+use Rattle.store.specs.declared.Place.{Place}
+use Rattle.store.specs.declared.Answer.{Answer}
+use Rattle.store.specs.declared.Answer.the-variants.{Kept, Written, Finished, Refused}
+use Rattle.store.specs.declared.Step.{Step}
+use Rattle.store.proofs.Place.step.Reads as step
+use Rattle.store.proofs.store.Reads as store
+
+-- ---- no second answer
+
+pub step-one-answer : (κs : _) (a : _) (r s : Step) (x y : _) → step.Post κs a r x → step.Post κs a s y
+    → (r .answer ≡ s .answer) × (r .next ≡ s .next) × (now (x .1 .1 .0) ≡ now (y .1 .1 .0)) × (now (x .1 .1 .1 .0) ≡ now (y .1 .1 .1 .0))
+step-one-answer κs a r s x y p q =
+    let same : _ = p ∙ sym q in (ap (λ o. o .answer) same, ap (λ o. o .next) same, ap (λ o. o .image) same, ap (λ o. o .map) same)
+
+pub store-one-answer : (κs : _) (a : _) (r s : Listed) (x y : _) → store.Post κs a r x → store.Post κs a s y
+    → (r ≡ s) × (now (x .1 .0) ≡ now (y .1 .0)) × (now (x .1 .1 .0) ≡ now (y .1 .1 .0)) × (now (x .1 .1 .1 .0) ≡ now (y .1 .1 .1 .0))
+store-one-answer κs a r s x y p q =
+    let same : _ = p ∙ sym q in (ap (λ o. o .answer) same, ap (λ o. o .image) same, ap (λ o. o .map) same, ap (λ o. o .list) same)
+
+-- ---- a step's refusals, and that these and finished change nothing
+
+module _ (h : Header) (table image map : List ℕ) (place : Place) where
+  page-told : (b : Bool) (k : ℕ) (r : Refusal) → cond b (Kept k) (Written k) ≡ Refused r → ⊥
+  page-told true k r e = let z : _≡_ {A = ℕ} 0 1 = cc in omega arith
+  page-told false k r e = let z : _≡_ {A = ℕ} 0 1 = cc in omega arith
+
+  page-not-finished : (b : Bool) (k : ℕ) → cond b (Kept k) (Written k) ≡ Finished → ⊥
+  page-not-finished true k e = let z : _≡_ {A = ℕ} 0 1 = cc in omega arith
+  page-not-finished false k e = let z : _≡_ {A = ℕ} 0 1 = cc in omega arith
+
+  -- a step that its tests allow
+  onward : Bool → Stepped
+  onward b = cond b (staying Finished place image map) (passing h table image map (place .page))
+
+  onward-told : (b : Bool) (r : Refusal) → onward b .answer ≡ Refused r → ⊥
+  unfolding onward passing
+  onward-told true r e = let z : _≡_ {A = ℕ} 0 1 = cc in omega arith
+  onward-told false r e = page-told (agrees h (entryAt (h .n) map) table (place .page)) (place .page) r e
+
+  onward-finished : (b : Bool) → onward b .answer ≡ Finished → onward b ≡ staying Finished place image map
+  unfolding onward passing
+  onward-finished true e = refl
+  onward-finished false e = absurd (page-not-finished (agrees h (entryAt (h .n) map) table (place .page)) (place .page) e)
+
+  step-told : (v : Verdict) (r : Refusal) → stepUnless v h table image map place .answer ≡ Refused r → v ≡ Verdict.Refused r
+  unfolding onward
+  step-told Verdict.Allowed r e = absurd (onward-told (eqb (place .page) (pages h)) r e)
+  step-told (Verdict.Refused s) r e = ap Verdict.Refused (same s r e)
+    where
+      same : (a b : Refusal) → Refused a ≡ Refused b → a ≡ b
+      same a b q = cc
+
+  step-finished : (v : Verdict) → stepUnless v h table image map place .answer ≡ Finished → stepUnless v h table image map place ≡ staying Finished place image map
+  unfolding onward
+  step-finished Verdict.Allowed e = onward-finished (eqb (place .page) (pages h)) e
+  step-finished (Verdict.Refused s) e = let z : _≡_ {A = ℕ} 0 1 = cc in absurd (omega arith)
+
+module _ (table image map : List ℕ) (place : Place) where
+  pub step-refused : (r : Refusal) → (stepping table image map place .answer ≡ Refused r) ↔ Lowest (stepTests table image map (place .page)) r
+  unfolding stepping
+  step-refused r = (
+    λ e. lowest-given (stepTests table image map (place .page)) tt r .0 (step-told (headerOf map) table image map place (first (stepTests table image map (place .page))) r e),
+    λ g.
+        ap (λ (v : Verdict). stepUnless v (headerOf map) table image map place .answer) (lowest-given (stepTests table image map (place .page)) tt r .1 g),
+  )
+
+  pub step-refused-keeps : (r : Refusal) → stepping table image map place .answer ≡ Refused r → stepping table image map place ≡ staying (Refused r) place image map
+  unfolding stepping
+  step-refused-keeps r e =
+      ap (λ (v : Verdict). stepUnless v (headerOf map) table image map place) (step-told (headerOf map) table image map place (first (stepTests table image map (place .page))) r e)
+
+  pub step-finished-keeps : stepping table image map place .answer ≡ Finished → stepping table image map place ≡ staying Finished place image map
+  unfolding stepping
+  step-finished-keeps e = step-finished (headerOf map) table image map place (first (stepTests table image map (place .page))) e
+
+-- ---- a store's
+
+module _ (table image map list : List ℕ) where
+  store-told : (v : Verdict) (h : Header) (r : Refusal) → storeUnless v h table image map list .answer ≡ Listed.Refused r → v ≡ Verdict.Refused r
+  store-told Verdict.Allowed h r e = let z : _≡_ {A = ℕ} 0 1 = cc in absurd (omega arith)
+  store-told (Verdict.Refused s) h r e = ap Verdict.Refused (same s r e)
+    where
+      same : (a b : Refusal) → Listed.Refused a ≡ Listed.Refused b → a ≡ b
+      same a b q = cc
+
+  store-counts : (v : Verdict) (h : Header) (count : ℕ) → storeUnless v h table image map list .answer ≡ Numbers count → v ≡ Verdict.Allowed
+  store-counts Verdict.Allowed h count e = refl
+  store-counts (Verdict.Refused s) h count e = let z : _≡_ {A = ℕ} 0 1 = cc in absurd (omega arith)
+
+  pub store-refused : (r : Refusal) → (storing table image map list .answer ≡ Listed.Refused r) ↔ Lowest (storeTests table image map list) r
+  unfolding storing
+  store-refused r = (
+    λ e. lowest-given (storeTests table image map list) tt r .0 (store-told (first (storeTests table image map list)) (headerOf map) r e),
+    λ g. ap (λ (v : Verdict). storeUnless v (headerOf map) table image map list .answer) (lowest-given (storeTests table image map list) tt r .1 g),
+  )
+
+  pub store-refused-keeps : (r : Refusal) → storing table image map list .answer ≡ Listed.Refused r → storing table image map list ≡ storedOf (Listed.Refused r) image map list
+  unfolding storing
+  store-refused-keeps r e = ap (λ (v : Verdict). storeUnless v (headerOf map) table image map list) (store-told (first (storeTests table image map list)) (headerOf map) r e)
+
+  -- a store that answers a count was allowed
+  pub store-allowed : (count : ℕ) → storing table image map list .answer ≡ Numbers count → first (storeTests table image map list) ≡ Verdict.Allowed
+  unfolding storing
+  store-allowed count e = store-counts _ (headerOf map) count e
