@@ -52,9 +52,10 @@ loop-again c =
     let k : ℕ = c .before .before .before .loop .k in
     let m : ℕ = pages (args .h) - (k + 1) in
     let more : pages (args .h) - k ≡ suc m = omega (arith, c .before .before .before .before .pages .ensures) in
-    let good : damaged (args .h) (args .image .now) (args .map .now) k ≡ false = ap not (sym (c .before .whole .ensures)) ∙ c .if1 .left in
-    (ap (firstNamed (damaged (args .h) (args .image .now) (args .map .now)) m) (add-one k) ∙ sym (first-later _ m k good) ∙ sym (ap (λ (i : ℕ). firstNamed (damaged (args .h) (args .image .now) (args .map .now)) i k) more) ∙ c .before .before .before .loop .inv .0,
-    omega (arith, c .before .before .before .before .pages .ensures))
+    let good : damaged (args .h) (args .image .now) (args .map .now) k ≡ false = ap not (sym (c .before .whole .ensures)) ∙ c .if1 .left in (
+      ap (firstNamed (damaged (args .h) (args .image .now) (args .map .now)) m) (add-one k) ∙ sym (first-later _ m k good) ∙ sym (ap (λ (i : ℕ). firstNamed (damaged (args .h) (args .image .now) (args .map .now)) i k) more) ∙ c .before .before .before .loop .inv .0,
+      omega (arith, c .before .before .before .before .pages .ensures),
+    )
 
 returns-2 : tie.Need-returns-2 Inv-loop μ-loop
 returns-2 c =

@@ -1,0 +1,2 @@
+-- The theorems on steps and stores.
+pub mod Keeping

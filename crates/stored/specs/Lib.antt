@@ -1,0 +1,2 @@
+-- What the theorems on stores speak of.
+pub mod Signing
