@@ -6,7 +6,7 @@ use mathlib.Core.List.{List, [], _∷_}
 use Prim.Native.Nat.{ℕ}
 use native.Mathlib.Omega.{arith}
 use lib.Dec.{eqb}
-use borrow.Author.Tests.{eqb-true, not-false}
+use borrow.Author.Tests.{eqb-true, eq-eqb, not-false}
 use Rattle.units.specs.Refusals.{Test, first, MAP}
 use Rattle.units.specs.declared.Refusal.{Refusal}
 use Rattle.units.specs.declared.Verdict.{Verdict}
@@ -84,3 +84,8 @@ module _ (one other : ℕ) (map : List ℕ) where
   open-usable h e =
       let both : (first (openTests one other map []) ≡ Verdict.Allowed) × (headerOf map ≡ h) = opened-open _ _ h e in
       subst (Usable one other map) (both .1) (quiet-usable (λ g. []) (both .0))
+
+  pub holds-usable : (h : Header) → reading map ≡ Holds h → one ≡ h .bucket .count → other ≡ h .bucket .count → Usable one other map h
+  holds-usable h holds one-fits other-fits =
+      let so : opened (first (matchTest one other h ∷ [])) h ≡ Open h = simp (eq-eqb _ _ one-fits, eq-eqb _ _ other-fits) in
+      open-usable h (open-holds one other map h holds ∙ so)

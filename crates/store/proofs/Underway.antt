@@ -13,6 +13,7 @@ use lib.ListN.{length, set, length-append}
 use borrow.Author.Tests.{le-ltb, lt-ltb, eq-eqb, ne-eqb}
 use types.Run.{OneOf}
 use Rattle.units.specs.Writing.{written}
+use Rattle.units.specs.declared.Verdict.{Verdict}
 use Rattle.units.proofs.Naming.{named-none, named-more, named-no-more, named-length}
 use Rattle.units.proofs.Writing.{written-none, written-one, written-append, written-length}
 use Rattle.signature.specs.Objects.{Octets}
@@ -23,13 +24,15 @@ use Rattle.map.specs.declared.Header.{Header}
 use Rattle.map.specs.declared.Entry.{Entry}
 use Rattle.map.specs.declared.Reading.the-variants.{Holds}
 use Rattle.map.proofs.Contents.{Sized, file-length, file-read, entry-read}
-use Rattle.map.proofs.Holding.{holds-sized, holds-held, holds-length}
+use Rattle.map.proofs.Holding.{holds-header, holds-sized, holds-held, holds-length}
 use Rattle.map.proofs.Readback.{file-of-reading}
 use Rattle.backup.specs.Backups.{Backup, backupIn, agrees, pageStored, stored, changed}
 use Rattle.backup.proofs.Alike.{SameEntries, same-agrees, same-file, alike-image, alike-entries}
 use Rattle.backup.proofs.Entered.{AllHeld}
+use Rattle.backup.proofs.Opened.{Usable, holds-usable}
 use Rattle.backup.proofs.Storing.{none-stored, next-stored, ahead-entry, all-length, all-held}
-use Rattle.store.specs.Steps.{Stepped, steppedOf, passedTo, passing, staying, openStep}
+use Rattle.store.specs.Steps.{Stepped, steppedOf, passedTo, passing, staying, placeTests, stepUnless, openStep, stepping}
+use Rattle.store.specs.declared.Place.{Place}
 use Rattle.store.specs.Stores.{storedOf, storedTo, openStore}
 use Rattle.store.specs.declared.Answer.{Answer}
 use Rattle.store.specs.declared.Answer.the-variants.{Kept, Written, Finished, Refused}
@@ -238,3 +241,11 @@ all-through h table image₀ map₀ list₀ k image map list found all room t n 
     ∙ ap₂ (λ (c : ℕ) (l : List ℕ). storedOf (Numbers c) (stored h table b k .image) (file h (stored h table b k .entry)) l) (n .found-is) (n .list-is)
     ∙ ap (λ (i : ℕ). storedTo h (stored h table b i) (changed h table (entryAt (h .n) map₀) i) list₀) all
     ∙ sym so
+
+-- the public step is the step on an opened backup, where the map reads and the lengths agree
+pub step-opens : (h : Header) (table image map : List ℕ) (place : Place) → reading map ≡ Holds h → length table ≡ h .bucket .count → length image ≡ h .bucket .count
+    → stepping table image map place ≡ openStep h table image map place
+unfolding stepping openStep
+step-opens h table image map place holds table-length image-length =
+    let u : Usable (length table) (length image) map h = holds-usable (length table) (length image) map h holds table-length image-length in
+    ap₂ (λ (v : Verdict) (g : Header). stepUnless v g table image map place) (u .rest (λ g. placeTests g (place .page))) (holds-header map h holds)

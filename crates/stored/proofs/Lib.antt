@@ -1,2 +1,4 @@
 -- The theorems on steps and stores.
 pub mod Keeping
+pub mod Mirroring
+pub mod Walking

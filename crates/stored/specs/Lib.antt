@@ -1,2 +1,4 @@
 -- What the theorems on stores speak of.
 pub mod Signing
+pub mod Mirrors
+pub mod Walks

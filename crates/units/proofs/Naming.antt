@@ -10,7 +10,7 @@ use native.Mathlib.Omega.{arith}
 use native.Mathlib.Decide.{decLt, ℕ-discrete}
 use lib.ListN.{length, getD, length-append, List·getD-append}
 use lib.Seq.{getD-at}
-use Rattle.units.specs.Naming.{named}
+use Rattle.units.specs.Naming.{named, Upward}
 
 module _ (test : ℕ → Bool) where
   pub named-more : (m : ℕ) → test m ≡ true → named test (suc m) ≡ named test m ++ (m ∷ [])
@@ -64,10 +64,6 @@ module _ (test : ℕ → Bool) where
 
   pub named-exactly : (m k : ℕ) → List·Memᴰ k (named test m) ↔ ((k < m) × (test k ≡ true))
   named-exactly m k = (named-only m k, λ b. named-each m k (b .0) (b .1))
-
--- each number is above those before it, so none stands twice
-abbrev pub Upward : List ℕ → Type 0
-Upward l = (i j : ℕ) → i < j → j < length l → getD l i 0 < getD l j 0
 
 module _ (test : ℕ → Bool) where
   below : (m i : ℕ) → i < length (named test m) → getD (named test m) i 0 < m
