@@ -5,3 +5,4 @@ pub mod Entered
 pub mod Pages
 pub mod Storing
 pub mod Alike
+pub mod Bounds

@@ -1,2 +1,3 @@
 -- The laws of loading.
 pub mod First
+pub mod Answers

@@ -54,22 +54,3 @@ module _ (h : Header) (table image map : List ℕ) (k : ℕ) (octets : Octets ma
     written-passing e =
         ap₂ (λ (t : Bool) (b : Backup). passedTo h (cond t (Kept k) (Written k)) k b) e (page-written h table (backupIn (h .n) image map) k e)
         ∙ ap (passedOf (Written k) k (written image (k * h .page .count) (pageAt (h .page .count) table k))) (sym entry-put-map)
-
--- sizes of a map that was read
-
-module _ (h : Header) (sized : Sized h) where
-  pub some-page : 0 < h .page .count
-  some-page =
-      let two : 2 ≤ h .page .count =
-      leb-true 2 _ (halves (eqb (h .page .count % 2) 0) _ (halves (eqb (h .page .count % 2) 0 && leb 2 (h .page .count)) _ (sized .page-fits) .0) .1) in
-      omega arith
-
-  pub few-pages : pages h ≤ 4096
-  few-pages = pages-most (h .bucket .count) (pages h) (sized .bucket-fits)
-
-  -- a page begins in the bucket
-  pub page-starts : (k : ℕ) → k < pages h → k * h .page .count < h .bucket .count
-  page-starts k inside = piece-begins (h .page .count) (h .bucket .count) some-page k inside
-
-  pub short-bucket : h .bucket .count ≤ 16777216
-  short-bucket = bucket-most (h .bucket .count) (pages h) (sized .bucket-fits)

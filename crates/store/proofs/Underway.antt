@@ -37,7 +37,7 @@ use Rattle.store.specs.Stores.{storedOf, storedTo, openStore}
 use Rattle.store.specs.declared.Answer.{Answer}
 use Rattle.store.specs.declared.Answer.the-variants.{Kept, Written, Finished, Refused}
 use Rattle.store.specs.declared.Step.{Step}
-use Rattle.store.proofs.Passing.{some-page}
+use Rattle.backup.proofs.Bounds.{some-page}
 use Rattle.store.proofs.Tags.{tag, told-kept, told-written, told-neither, kept-not-finished, written-not-finished}
 
 -- the first k pages are through

@@ -36,7 +36,7 @@ use Rattle.store.specs.Steps.{staying, passing, stepUnless, placeTests, stepTes
 use Rattle.store.specs.Stores.{listTests, storeUnless, storeTests, storing}
 use Rattle.store.specs.declared.Place.{Place}
 use Rattle.store.specs.declared.Answer.the-variants.{Finished}
-use Rattle.store.proofs.Passing.{some-page}
+use Rattle.backup.proofs.Bounds.{some-page}
 use Rattle.stored.specs.Signing.{Signs, Signed}
 
 -- ---- one page

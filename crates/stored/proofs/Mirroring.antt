@@ -44,7 +44,7 @@ use Rattle.backup.proofs.Sameness.{same-is, is-same}
 use Rattle.backup.proofs.Storing.{pageAfter, entryAfter, passed-entry, passed-page, all-length}
 use Rattle.store.specs.Stores.{Stored, storedTo, listTests, storeUnless, storeTests, storing}
 use Rattle.store.proofs.Answers.{store-allowed}
-use Rattle.store.proofs.Passing.{some-page}
+use Rattle.backup.proofs.Bounds.{some-page}
 use Rattle.stored.specs.Signing.{Signs, Signed}
 use Rattle.stored.specs.Mirrors.{FewDiffer, Mirrored}
 

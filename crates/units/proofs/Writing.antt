@@ -2,12 +2,12 @@
 -- Assumes nothing.
 use mathlib.Core.Path.{_≡_, refl, sym, ap, ap₂, _∙_}
 use mathlib.Core.Logic.{_≢_}
-use mathlib.Core.List.{List, [], _∷_, _++_, append-assoc}
+use mathlib.Core.List.{List, [], _∷_, _++_, append-assoc, append-nil}
 use Prim.Native.Nat.{ℕ, suc, _+_, _≤_, _<_}
 use native.Mathlib.Nat.{add-zero, add-suc, suc-add, le-refl}
 use native.Mathlib.Numerals.{add-one}
 use native.Mathlib.Omega.{arith}
-use lib.ListN.{length, take, drop, set, length-append, length-set}
+use lib.ListN.{length, take, drop, set, length-append, length-set, drop-of-length-le}
 use lib.Seq.{sets, sets-eq, length-sets, length-take-le, set-comm, take-at, drop-at}
 use borrow.Author.Tests.{le-leb, lt-leb}
 use Rattle.units.specs.Writing.{written, partPut, Put, putOf, put}
@@ -117,3 +117,10 @@ module _ (part old : List ℕ) (at : ℕ) where
   pub part-not-put : length old < at + length part → partPut part old at ≡ old
   unfolding partPut
   part-not-put short = simp (lt-leb _ _ short)
+
+-- all of a list
+pub written-whole : (old new : List ℕ) → length new ≡ length old → written old 0 new ≡ new
+unfolding written
+written-whole old new long =
+    let past : length old ≤ 0 + length new = omega arith in
+    ap (λ (l : List ℕ). new ++ l) (drop-of-length-le old past) ∙ append-nil new

@@ -11,7 +11,8 @@ use Rattle.signature.specs.Operations.{own}
 use Rattle.signature.specs.Kinds.{wide}
 use Rattle.units.specs.Writing.{written}
 use Prim.Native.Nat.{_-_, min}
-use Rattle.store.proofs.Passing.{kept-passing, written-passing, few-pages, page-starts, short-bucket}
+use Rattle.backup.proofs.Bounds.{few-pages, page-starts, short-bucket}
+use Rattle.store.proofs.Passing.{kept-passing, written-passing}
 use Rattle.backup.proofs.Sameness.{agrees-by}
 use Rattle.backup.specs.Backups.{agrees}
 use Rattle.map.proofs.Holding.{holds-sized}

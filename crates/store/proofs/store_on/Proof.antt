@@ -10,7 +10,7 @@ use Rattle.units.specs.declared.Listed.the-variants.{Numbers, Refused}
 use Rattle.units.specs.declared.Listed.{Listed}
 use Rattle.store.proofs.Underway.{on-kept, on-written, on-neither}
 use Rattle.store.proofs.Underway.{Ready, Passed, Done, taken, none-through, none-noted, through-reads, through-length, through-map-length, noted-below, noted-length, noted-kept, noted-written}
-use Rattle.store.proofs.Passing.{few-pages}
+use Rattle.backup.proofs.Bounds.{few-pages}
 use Rattle.store.specs.Stores.{openStore, storedOf, endedBy}
 use Rattle.map.proofs.Holding.{holds-sized}
 use borrow.Author.Tests.{lt-ltb, le-ltb}
