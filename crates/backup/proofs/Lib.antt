@@ -6,3 +6,4 @@ pub mod Pages
 pub mod Storing
 pub mod Alike
 pub mod Bounds
+pub mod Answers

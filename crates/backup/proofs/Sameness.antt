@@ -45,3 +45,12 @@ pub agrees-by : (h : Header) (entry : ℕ → Entry) (bucket : List ℕ) (k : �
 unfolding agrees
 agrees-by h entry bucket k page s e r cut signed found told =
     ap₂ (λ (a : Signature) (b : Entry). same a (b .signature)) (ap (own wide (h .n)) (sym cut) ∙ sym signed) (sym found) ∙ sym told
+
+module _ (h : Header) (entry : ℕ → Entry) (bucket : List ℕ) (k : ℕ) where
+  pub agrees-is : agrees h entry bucket k ≡ true → own wide (h .n) (pageAt (h .page .count) bucket k) ≡ entry k .signature
+  unfolding agrees
+  agrees-is e = same-is _ _ e
+
+  pub is-agrees : own wide (h .n) (pageAt (h .page .count) bucket k) ≡ entry k .signature → agrees h entry bucket k ≡ true
+  unfolding agrees
+  is-agrees e = is-same _ _ e

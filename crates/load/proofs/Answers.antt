@@ -12,6 +12,7 @@ use denote.Ref.{now}
 use Rattle.units.specs.Filling.{outcome, told}
 use Rattle.units.specs.Refusals.{first, DAMAGED}
 use Rattle.units.specs.Writing.{written}
+use Rattle.units.specs.declared.Bytes.{Bytes}
 use Rattle.units.specs.declared.Filled.{Filled}
 use Rattle.units.specs.declared.Filled.the-variants.{Written}
 use Rattle.units.specs.declared.Filled.the-variants as Filled
@@ -20,13 +21,15 @@ use Rattle.units.specs.declared.Verdict.{Verdict}
 use Rattle.units.specs.declared.Verdict.the-variants.{Allowed, Refused}
 use Rattle.units.proofs.Filling.{filling-refused, filling-refused-keeps}
 use Rattle.units.proofs.Refusing.{Quiet, Lowest, allowed-when, lowest-given, allowed-not-refused}
-use Rattle.units.proofs.Pieces.{piece-begins}
+use Rattle.units.proofs.Writing.{written-whole}
 use Rattle.map.specs.Buckets.{pageAt}
 use Rattle.map.specs.Files.{pages}
 use Rattle.map.specs.Reading.{headerOf, reading, entryAt}
 use Rattle.map.specs.declared.Header.{Header}
 use Rattle.map.specs.declared.Reading.the-variants.{Holds}
-use Rattle.backup.specs.Backups.{agrees}
+use Rattle.map.proofs.Contents.{Sized}
+use Rattle.map.proofs.Holding.{holds-sized}
+use Rattle.backup.proofs.Bounds.{some-page, page-starts}
 use Rattle.backup.proofs.Opened.{Usable, quiet-usable}
 use Rattle.backup.proofs.Pages.{page-length}
 use Rattle.load.specs.Loads.{damaged, pageTests, loadTests, asking, partUnless, loadedPage, lowestDamaged, bucketTests, loadBucketTests, loading}
@@ -62,6 +65,20 @@ module _ (image map : List ℕ) (k : ℕ) where
   unfolding loadedPage
   load-refused r e = ap (λ (v : Verdict). partUnless v (pageAt (headerOf map .page .count) image k)) e
 
+  -- a page has bytes: an empty part is always a refusal
+  pub load-some : asking image map k ≡ Allowed → 0 < length (loadedPage image map k)
+  unfolding asking
+  load-some e =
+      let q : Quiet (loadTests image map k) = allowed-when (loadTests image map k) .0 e in
+      let h : Header = headerOf map in
+      let u : Usable (length image) (length image) map h = quiet-usable (length image) (length image) map (λ g. pageTests g image map k) e in
+      let inside : k < pages h = leb-false _ _ (q .1 .1 .0) in
+      let sized : Sized h = holds-sized map h (u .holds) in
+      let some : 0 < h .page .count = some-page h sized in
+      let starts : k * h .page .count < h .bucket .count = page-starts h sized k inside in
+      let long : length (pageAt (h .page .count) image k) ≡ min (h .page .count) (length image - k * h .page .count) = page-length (h .page .count) image k in
+      omega (arith, ap length (load-gives e), u .one-fits)
+
 -- ---- the bucket
 
 module _ (image map table : List ℕ) where
@@ -72,3 +89,19 @@ module _ (image map table : List ℕ) where
   pub load-bucket-refused-keeps : (r : Refusal) → told (loading image map table .answer) ≡ Refused r → loading image map table .output ≡ table
   unfolding loading
   load-bucket-refused-keeps = filling-refused-keeps (length image) image table (loadBucketTests image map table)
+
+  written-told : (v : Verdict) (b : Bytes) → outcome v (length image) image table .answer ≡ Written b → (v ≡ Allowed) × (b .count ≡ length image)
+  written-told Allowed b e = (refl, sym (ap (λ (x : Bytes). x .count) (same (record { count = length image }) b e)))
+    where
+      same : (x y : Bytes) → Written x ≡ Written y → x ≡ y
+      same x y q = cc
+  written-told (Refused r) b e = let z : _≡_ {A = ℕ} 0 1 = cc in absurd (omega arith)
+
+  -- a load that is not refused leaves the image's bytes in the table, and answers how many they are
+  pub load-bucket-gives : (b : Bytes) → loading image map table .answer ≡ Written b → (loading image map table .output ≡ image) × (b .count ≡ length image)
+  unfolding loading
+  load-bucket-gives b e =
+      let both : (first (loadBucketTests image map table) ≡ Allowed) × (b .count ≡ length image) = written-told (first (loadBucketTests image map table)) b e in
+      let u : Usable (length table) (length image) map (headerOf map) =
+      quiet-usable (length table) (length image) map (λ g. bucketTests g image map) (both .0) in
+      (ap (λ (v : Verdict). outcome v (length image) image table .output) (both .0) ∙ written-whole table image (u .other-fits ∙ sym (u .one-fits)), both .1)

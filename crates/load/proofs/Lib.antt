@@ -1,3 +1,4 @@
 -- The laws of loading.
 pub mod First
 pub mod Answers
+pub mod Damage

@@ -3,7 +3,7 @@
 use mathlib.Core.Path.{_≡_, refl, sym, ap, ap₂, _∙_, subst}
 use mathlib.Core.Logic.{dite}
 use mathlib.Core.Bool.{Bool, true, false, cond}
-use mathlib.Core.List.{List, _∷_}
+use mathlib.Core.List.{List, []}
 use Prim.Native.Nat.{ℕ, zero, suc, _≤_, _<_}
 use native.Mathlib.Nat.{le-refl}
 use native.Mathlib.Decide.{ℕ-discrete}
@@ -29,6 +29,9 @@ use Rattle.map.specs.declared.Reading.the-variants.{Holds}
 use Rattle.map.proofs.Contents.{Sized, file-read, entry-read}
 use Rattle.map.proofs.Holding.{holds-header, holds-sized, holds-held}
 use Rattle.backup.specs.Backups.{Backup, backupIn, agrees, pageStored, stored}
+use Rattle.map.proofs.Maps.{made-reads, made-entry-reads}
+use Rattle.map.proofs.Readback.{file-of-reading}
+use Rattle.backup.proofs.Alike.{same-file}
 use Rattle.backup.proofs.Entered.{AllHeld}
 use Rattle.backup.proofs.Opened.{Usable, quiet-usable}
 use Rattle.backup.proofs.Storing.{stored-entry, stored-entry-else, stored-length, stored-page, stored-page-else, page-held, next-stored, none-stored, all-length, all-held}
@@ -39,11 +42,30 @@ use Rattle.store.specs.declared.Answer.the-variants.{Finished}
 use Rattle.backup.proofs.Bounds.{some-page}
 use Rattle.stored.specs.Signing.{Signs, Signed}
 
--- ---- one page
-
 made-signs : (n page : ℕ) (bucket : List ℕ) (k : ℕ) → madeEntry n page bucket k .signature ≡ own wide n (pageAt page bucket k)
 unfolding madeEntry
 made-signs n page bucket k = refl
+
+-- ---- a map holds the image's signatures exactly when it is the one made from the image
+
+pub made-signed : (n page : ℕ) (image : List ℕ) → Octets image → Sized (madeHeader n page image) → Signed (madeHeader n page image) image (made n page image)
+made-signed n page image octets sized =
+    record {
+      holds = made-reads n page image [] octets sized;
+      long = refl;
+      signs = λ k inside. ap (λ (e : Entry). e .signature) (made-entry-reads n page image [] octets sized k inside) ∙ made-signs n page image k;
+    }
+
+pub signed-made : (h : Header) (image map : List ℕ) → Octets map → Signed h image map → map ≡ made (h .n) (h .page .count) image
+unfolding made madeEntry
+signed-made h image map octets signed =
+    sym (file-of-reading map octets h (signed .holds))
+    ∙ same-file h (entryAt (h .n) map) (madeEntry (h .n) (h .page .count) image)
+    (λ k inside.
+    ap₂ {C = Entry} (λ t s. record { tag = t; signature = s }) (holds-held map h (signed .holds) octets k inside .tagged-04) (signed .signs k inside))
+    ∙ sym (ap {B = List ℕ} (λ (l : ℕ). file (record { n = h .n; page = h .page; bucket = record { count = l } }) (madeEntry (h .n) (h .page .count) image)) (signed .long))
+
+-- ---- one page
 
 module _ (h : Header) (some : 0 < h .page .count) (table : List ℕ) (b : Backup) (k : ℕ) (table-length : length table ≡ h .bucket .count)
     (image-length : length (b .image) ≡ h .bucket .count) (inside : k < pages h) (signs : Signs h (b .image) (b .entry)) where

@@ -31,31 +31,22 @@ use Rattle.map.specs.Reading.{headerOf, reading, entryAt}
 use Rattle.map.specs.declared.Header.{Header}
 use Rattle.map.specs.declared.Entry.{Entry}
 use Rattle.map.specs.declared.Reading.the-variants.{Holds}
-use Rattle.map.proofs.Contents.{Sized}
+use Rattle.map.proofs.Contents.{Sized, entry-read}
 use Rattle.map.proofs.Holding.{holds-header, holds-sized, holds-held}
 use Rattle.map.proofs.MadeMaps.{n-most, page-most}
 use Rattle.map.proofs.Octets.{page-octets}
-use Rattle.backup.specs.Backups.{Backup, backupIn, agrees, same, stored, changed}
+use Rattle.backup.specs.Backups.{Backup, backupIn, agrees, stored, changed}
 use Rattle.backup.proofs.Alike.{same-file}
 use Rattle.backup.proofs.Entered.{AllHeld}
 use Rattle.backup.proofs.Opened.{Usable, quiet-usable}
 use Rattle.backup.proofs.Pages.{page-length, pages-whole}
-use Rattle.backup.proofs.Sameness.{same-is, is-same}
-use Rattle.backup.proofs.Storing.{pageAfter, entryAfter, passed-entry, passed-page, all-length}
+use Rattle.backup.proofs.Sameness.{agrees-is, is-agrees}
+use Rattle.backup.proofs.Storing.{pageAfter, entryAfter, passed-entry, passed-page, all-length, all-held}
 use Rattle.store.specs.Stores.{Stored, storedTo, listTests, storeUnless, storeTests, storing}
 use Rattle.store.proofs.Answers.{store-allowed}
 use Rattle.backup.proofs.Bounds.{some-page}
 use Rattle.stored.specs.Signing.{Signs, Signed}
 use Rattle.stored.specs.Mirrors.{FewDiffer, Mirrored}
-
-module _ (h : Header) (entry : ℕ → Entry) (bucket : List ℕ) (k : ℕ) where
-  pub agrees-is : agrees h entry bucket k ≡ true → own wide (h .n) (pageAt (h .page .count) bucket k) ≡ entry k .signature
-  unfolding agrees
-  agrees-is e = same-is _ _ e
-
-  pub is-agrees : own wide (h .n) (pageAt (h .page .count) bucket k) ≡ entry k .signature → agrees h entry bucket k ≡ true
-  unfolding agrees
-  is-agrees e = is-same _ _ e
 
 -- what a store that was allowed leaves
 module _ (h : Header) (table image map list : List ℕ) (holds : reading map ≡ Holds h) (count : ℕ) (answer : storing table image map list .answer ≡ Numbers count) where
@@ -76,6 +67,23 @@ module _ (h : Header) (table image map list : List ℕ) (holds : reading map ≡
     where
       number : (a b : ℕ) → Numbers a ≡ Numbers b → a ≡ b
       number a b e = cc
+
+  -- ---- page by page and entry by entry, from what stood there: a store looks at the table and the entries only
+
+  pub store-page : (k : ℕ) → k < pages h → pageAt (h .page .count) (storing table image map list .image) k ≡ pageAfter h table (backupIn (h .n) image map) k
+  store-page k inside =
+      ap (λ (s : Stored). pageAt (h .page .count) (s .image) k) store-leaves
+      ∙ passed-page h table (backupIn (h .n) image map) (some-page h (holds-sized map h holds)) (store-usable .one-fits) (store-usable .other-fits) (pages h)
+      (le-refl (pages h)) k inside
+
+  pub store-entry : Octets table → Octets map → (k : ℕ) → k < pages h
+      → entryAt (h .n) (storing table image map list .map) k ≡ entryAfter h table (backupIn (h .n) image map) k
+  store-entry table-octets map-octets k inside =
+      let b : Backup = backupIn (h .n) image map in
+      ap (λ (s : Stored). entryAt (h .n) (s .map) k) store-leaves
+      ∙ entry-read h (stored h table b (pages h) .entry) (holds-sized map h holds)
+      (all-held h table b table-octets (holds-held map h holds map-octets) (pages h)) k inside
+      ∙ passed-entry h table b (pages h) k inside
 
   -- ---- the map is the one made from the table, whatever the table holds
 
@@ -137,14 +145,13 @@ module _ (h : Header) (table image map list : List ℕ) (holds : reading map ≡
       image-table : storing table image map list .image ≡ table
       image-table =
           let b : Backup = backupIn (h .n) image map in
-          let some : 0 < h .page .count = some-page h sized in
           let long : length (stored h table b (pages h) .image) ≡ h .bucket .count =
-          all-length h table b some (store-usable .one-fits) (store-usable .other-fits) (pages h) (le-refl (pages h)) in
-          ap (λ (s : Stored). s .image) store-leaves
-          ∙ pages-whole (h .page .count) some _ table (long ∙ sym (store-usable .one-fits))
+          all-length h table b (some-page h sized) (store-usable .one-fits) (store-usable .other-fits) (pages h) (le-refl (pages h)) in
+          let after : length (storing table image map list .image) ≡ h .bucket .count = ap (λ (s : Stored). length (s .image)) store-leaves ∙ long in
+          pages-whole (h .page .count) (some-page h sized) _ table (after ∙ sym (store-usable .one-fits))
           (λ k inside.
-          let there : k < pages h = subst (λ (l : ℕ). k < pagesIn (h .page .count) l) long inside in
-          passed-page h table b some (store-usable .one-fits) (store-usable .other-fits) (pages h) (le-refl (pages h)) k there ∙ image-page k there)
+          let there : k < pages h = subst (λ (l : ℕ). k < pagesIn (h .page .count) l) after inside in
+          store-page k there ∙ image-page k there)
 
       precisely : (k : ℕ) → List·Memᴰ k (changed h table (entryAt (h .n) map) (pages h)) ↔ ((k < pages h) × (pageAt (h .page .count) table k ≢ pageAt (h .page .count) image k))
       precisely k =

@@ -5,3 +5,4 @@ pub mod Refusing
 pub mod Writing
 pub mod Filling
 pub mod Naming
+pub mod Answers
