@@ -71,13 +71,14 @@ fn whole(h: Header, image: &[u8], map: &[u8], k: usize) -> bool
 fn lowest_damaged(h: Header, image: &[u8], map: &[u8]) -> usize
     ensures { λ r. ⌜ r ≡ lowestDamaged h (now (image .entry)) (now (map .entry)) ⌝ }
 {
-    let count = map::pages(h);
+    let mut left = map::pages(h);
     let mut k: usize = 0;
-    while k < count {
+    while left > 0 {
         if !whole(h, image, map, k) {
             return k;
         }
         k += 1;
+        left -= 1;
     }
     k
 }

@@ -82,7 +82,8 @@ fn pass(h: Header, table: &[u8], image: &mut [u8], map: &mut [u8], k: usize) -> 
     requires { ⌜ (reading (now map) ≡ Holds h) × (length (now table) ≡ h .bucket .count) × (length (now image) ≡ h .bucket .count) × (k < Header·pages h) ⌝ }
     ensures { λ r. ⌜ steppedOf r (now (image .exit)) (now (map .exit)) ≡ passing h (now (table .entry)) (now (image .entry)) (now (map .entry)) k ⌝ }
 {
-    let next = Place { page: k + 1 };
+    let up = k + 1;
+    let next = Place { page: up };
     let page = map::page_at(h.page, table, k);
     let own = signature::own(h.n, page);
     let entry = map::entry_at(h.n, map, k);
@@ -92,7 +93,8 @@ fn pass(h: Header, table: &[u8], image: &mut [u8], map: &mut [u8], k: usize) -> 
             next,
         };
     }
-    units::put_part(page, image, k * h.page.count);
+    let at = k * h.page.count;
+    units::put_part(page, image, at);
     map::put_entry(
         Entry {
             tag: 4,

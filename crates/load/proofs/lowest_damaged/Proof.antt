@@ -1,14 +1,13 @@
-use native.Mathlib.Nat.{sub-zero}
 use Rattle.load.proofs.First.{first-none, first-here, first-later}
 use Rattle.load.specs.Loads.{firstNamed, damaged, lowestDamaged}
-use Rattle.map.specs.declared.Header.{Header}
 use Rattle.map.specs.Files.{pages}
 use borrow.Author.Needs.{needs}
 use native.Mathlib.Omega.{arith}
 use native.Mathlib.Numerals.{add-one}
+use native.Mathlib.Nat.{zero-add}
 use Prim.Native.Nat.{ℕ, suc, _+_, _-_, _≤_, _<_}
 use mathlib.Core.Bool.{true, false, not}
-use mathlib.Core.Path.{_≡_, refl, sym, ap, _∙_}
+use mathlib.Core.Path.{_≡_, refl, sym, ap, ap₂, _∙_}
 use Rattle.load.proofs.lowest_damaged.Statement.{statement}
 use Rattle.load.proofs.lowest_damaged.Tie as tie
 use Rattle.load.proofs.lowest_damaged.Reads as reads
@@ -17,16 +16,16 @@ use Rattle.load.proofs.whole.Reads as whole-reads
 use Rattle.map.proofs.pages.Reads as pages-reads
 
 abbrev Inv-loop : tie.InvT-loop
-Inv-loop h image map count k₀ k = (firstNamed (damaged h image map) (pages h - k) k ≡ lowestDamaged h image map) × (k ≤ pages h)
+Inv-loop h image map left₀ k₀ left k = (firstNamed (damaged h image map) left k ≡ lowestDamaged h image map) × (k + left ≡ pages h)
 
 abbrev μ-loop : tie.MeasureT-loop
-μ-loop h image map count k₀ k = pages h - k
+μ-loop h image map left₀ k₀ left k = left
 
 pages-requires : tie.Need-pages-requires Inv-loop μ-loop
 pages-requires c κs = search needs
 
 loop-holds : tie.Need-loop-holds Inv-loop μ-loop
-loop-holds c = (ap (λ (m : ℕ). firstNamed (damaged (c .before .before .before .args .h) (c .before .before .before .args .image .now) (c .before .before .before .args .map .now)) m 0) (sub-zero (pages (c .before .before .before .args .h))), omega arith)
+loop-holds c = (ap (λ (m : ℕ). firstNamed (damaged (c .before .before .before .args .h) (c .before .before .before .args .image .now) (c .before .before .before .args .map .now)) m 0) (c .pages .ensures), zero-add _ ∙ c .pages .ensures)
 
 whole-requires : tie.Need-whole-requires Inv-loop μ-loop
 whole-requires c κs = search needs
@@ -34,34 +33,37 @@ whole-requires c κs = search needs
 returns : tie.Need-returns Inv-loop μ-loop
 returns c =
     let args : _ = c .before .before .before .before .before .before .before .args in
-    let k : ℕ = c .before .before .before .loop .k in
-    let m : ℕ = pages (args .h) - suc k in
-    let more : pages (args .h) - k ≡ suc m = omega (arith, c .before .before .before .before .pages .ensures) in
-    let bad : damaged (args .h) (args .image .now) (args .map .now) k ≡ true = ap not (sym (c .before .whole .ensures)) ∙ c .if1 .taken in
-    sym (first-here _ m k bad) ∙ sym (ap (λ (i : ℕ). firstNamed (damaged (args .h) (args .image .now) (args .map .now)) i k) more) ∙ c .before .before .before .loop .inv .0
+    let at : _ = c .before .before .before .loop in
+    let more : at .left ≡ suc (at .left - 1) = omega arith in
+    let bad : damaged (args .h) (args .image .now) (args .map .now) (at .k) ≡ true = ap not (sym (c .before .whole .ensures)) ∙ c .if1 .taken in
+    sym (first-here _ (at .left - 1) (at .k) bad) ∙ sym (ap (λ (i : ℕ). firstNamed (damaged (args .h) (args .image .now) (args .map .now)) i (at .k)) more) ∙ at .inv .0
 
 add-k : tie.Need-add-k Inv-loop μ-loop
 add-k c = search needs
 
+sub-left : tie.Need-sub-left Inv-loop μ-loop
+sub-left c = search needs
+
 loop-less : tie.Need-loop-less Inv-loop μ-loop
-loop-less c = omega (arith, c .before .before .before .before .pages .ensures)
+loop-less c = omega arith
 
 loop-again : tie.Need-loop-again Inv-loop μ-loop
 loop-again c =
     let args : _ = c .before .before .before .before .before .before .before .args in
-    let k : ℕ = c .before .before .before .loop .k in
-    let m : ℕ = pages (args .h) - (k + 1) in
-    let more : pages (args .h) - k ≡ suc m = omega (arith, c .before .before .before .before .pages .ensures) in
-    let good : damaged (args .h) (args .image .now) (args .map .now) k ≡ false = ap not (sym (c .before .whole .ensures)) ∙ c .if1 .left in (
-      ap (firstNamed (damaged (args .h) (args .image .now) (args .map .now)) m) (add-one k) ∙ sym (first-later _ m k good) ∙ sym (ap (λ (i : ℕ). firstNamed (damaged (args .h) (args .image .now) (args .map .now)) i k) more) ∙ c .before .before .before .loop .inv .0,
-      omega (arith, c .before .before .before .before .pages .ensures),
+    let at : _ = c .before .before .before .loop in
+    let more : at .left ≡ suc (at .left - 1) = omega arith in
+    let good : damaged (args .h) (args .image .now) (args .map .now) (at .k) ≡ false = ap not (sym (c .before .whole .ensures)) ∙ c .if1 .left in (
+      ap (firstNamed (damaged (args .h) (args .image .now) (args .map .now)) (at .left - 1)) (add-one (at .k)) ∙ sym (first-later _ (at .left - 1) (at .k) good)
+          ∙ sym (ap (λ (i : ℕ). firstNamed (damaged (args .h) (args .image .now) (args .map .now)) i (at .k)) more) ∙ at .inv .0,
+      omega (arith, at .inv .1),
     )
 
 returns-2 : tie.Need-returns-2 Inv-loop μ-loop
 returns-2 c =
     let args : _ = c .before .before .before .before .before .args in
-    let none : pages (args .h) - c .before .loop .k ≡ 0 = omega (arith, c .before .before .pages .ensures) in
-    sym (first-none _ (c .before .loop .k)) ∙ sym (ap (λ (i : ℕ). firstNamed (damaged (args .h) (args .image .now) (args .map .now)) i (c .before .loop .k)) none) ∙ c .before .loop .inv .0
+    let at : _ = c .before .loop in
+    let none : at .left ≡ 0 = omega arith in
+    sym (first-none _ (at .k)) ∙ sym (ap (λ (i : ℕ). firstNamed (damaged (args .h) (args .image .now) (args .map .now)) i (at .k)) none) ∙ at .inv .0
 
 pub lowest-damaged-spec : {M : Type 1} → statement M
 lowest-damaged-spec =
@@ -74,6 +76,7 @@ lowest-damaged-spec =
     whole-requires
     returns
     add-k
+    sub-left
     loop-less
     loop-again
     returns-2)

@@ -1,30 +1,25 @@
-use Rattle.store.proofs.Passing.{passedOf}
+use Rattle.store.proofs.Passing.{passedOf, kept-passing, written-passing}
 use Rattle.store.specs.declared.Answer.the-variants.{Kept, Written}
 use Rattle.store.specs.Steps.{Stepped}
+use Rattle.backup.proofs.Sameness.{agrees-by}
 use Rattle.backup.proofs.Pages.{page-length}
-use Rattle.map.specs.declared.Entry.{Entry}
+use Rattle.backup.proofs.Bounds.{few-pages, page-starts, short-bucket}
+use Rattle.backup.specs.Backups.{agrees}
+use Rattle.map.proofs.Holding.{holds-sized}
+use Rattle.map.proofs.Contents.{Sized}
+use Rattle.map.specs.Reading.{entryAt}
 use Rattle.map.specs.Making.{madeEntry}
 use Rattle.map.specs.Files.{entryPut}
 use Rattle.map.specs.Buckets.{pageAt}
 use Rattle.signature.specs.declared.Signature.{Signature}
 use Rattle.signature.specs.Operations.{own}
 use Rattle.signature.specs.Kinds.{wide}
-use Rattle.units.specs.Writing.{written}
-use Prim.Native.Nat.{_-_, min}
-use Rattle.backup.proofs.Bounds.{few-pages, page-starts, short-bucket}
-use Rattle.store.proofs.Passing.{kept-passing, written-passing}
-use Rattle.backup.proofs.Sameness.{agrees-by}
-use Rattle.backup.specs.Backups.{agrees}
-use Rattle.map.proofs.Holding.{holds-sized}
-use Rattle.map.proofs.Contents.{Sized}
-use Rattle.map.specs.declared.Header.{Header}
-use Rattle.map.specs.Reading.{entryAt}
-use Rattle.map.specs.Files.{pages}
 use Rattle.units.proofs.Writing.{part-put}
+use Rattle.units.specs.Writing.{written}
 use lib.ListN.{length}
 use native.Mathlib.Omega.{arith}
 use native.Mathlib.Numerals.{add-one}
-use Prim.Native.Nat.{ℕ, suc, _+_, _*_, _≤_, _<_}
+use Prim.Native.Nat.{ℕ, _+_, _-_, _*_, _≤_, _<_, min}
 use mathlib.Core.List.{List}
 use mathlib.Core.Bool.{true, false}
 use mathlib.Core.Path.{_≡_, sym, ap, ap₂, _∙_}
@@ -40,8 +35,8 @@ use Rattle.map.proofs.put_entry.Reads as put-entry-reads
 use Rattle.signature.proofs.own.Reads as own-reads
 use Rattle.units.proofs.put_part.Reads as put-part-reads
 
-add-put-part : tie.Need-add-put-part
-add-put-part c =
+add-up : tie.Need-add-up
+add-up c =
     let few : _ ≤ 4096 = few-pages (c .before .before .before .args .h) (holds-sized _ (c .before .before .before .args .h) (c .before .before .before .pre .0)) in
     omega (arith, c .before .before .before .pre .3)
 
@@ -68,11 +63,11 @@ returns c =
     ap {B = Stepped} (λ (p : ℕ). record { answer = Kept (args .k); next = record { page = p }; image = args .image .now; map = args .map .now }) (add-one (args .k))
     ∙ sym (kept-passing (args .h) (args .table .now) (args .image .now) (args .map .now) (args .k) (λ i. c .before .before .before .before .before .before .slice-known2 .given i .fits) (c .before .before .before .before .before .before .before .before .before .pre .0) agreed)
 
-mul-put-part : tie.Need-mul-put-part
-mul-put-part c =
-    let args : _ = c .before .before .before .before .before .before .before .before .before .before .before .args in
-    let sized : Sized (args .h) = holds-sized _ (args .h) (c .before .before .before .before .before .before .before .before .before .before .before .pre .0) in
-    let starts : args .k * args .h .page .count < args .h .bucket .count = page-starts (args .h) sized (args .k) (c .before .before .before .before .before .before .before .before .before .before .before .pre .3) in
+mul-at : tie.Need-mul-at
+mul-at c =
+    let args : _ = c .before .before .before .before .before .before .before .before .before .before .args in
+    let sized : Sized (args .h) = holds-sized _ (args .h) (c .before .before .before .before .before .before .before .before .before .before .pre .0) in
+    let starts : args .k * args .h .page .count < args .h .bucket .count = page-starts (args .h) sized (args .k) (c .before .before .before .before .before .before .before .before .before .before .pre .3) in
     let short : args .h .bucket .count ≤ 16777216 = short-bucket (args .h) sized in
     record { fits = omega arith }
 
@@ -111,14 +106,14 @@ pub pass-spec : {M : Type 1} → statement M
 pass-spec =
     tie.close
     (tie.spec
-    add-put-part
+    add-up
     page-at-requires
     own-requires
     entry-at-requires
     same-requires
     same-length
     returns
-    mul-put-part
+    mul-at
     put-part-requires
     put-entry-requires
     same-length-2
