@@ -2,9 +2,10 @@
 """Writes what the stored runs are fed and what they should print, from the scope's text alone.
 
 Products go by tables of logarithms and exponents, so that no step is the library's.
-Run as: python3 runs/model.py  (from anywhere; it writes runs/maplist, and the stdout of crates/maps and of crates/stores)
+Run as: python3 runs/model.py  (from anywhere; it writes runs/maplist, runs/stores, the stdout of crates/maps, and stdin and stdout of crates/stores)
 """
 import os
+import random
 
 ORDER = 65535
 EXP, LOG = [0] * ORDER, {}
@@ -133,26 +134,33 @@ def read(file):
 class Backup:
     """An image and a map, in place."""
 
-    def __init__(self, image):
-        self.image, self.map = bytearray(image), bytearray(make(2, 4, bytes(image)))
+    def __init__(self, image, map):
+        self.image, self.map = image, map
 
     def open(self, *lengths):
         self.n, self.page, bucket, self.pages = read(bytes(self.map))
         if any(length != bucket for length in lengths):
             raise Refused(6, 0)
 
-    def differs(self, bucket, k):
-        own = entry([component(bytes(bucket[k * self.page : (k + 1) * self.page]), j) for j in range(1, self.n + 1)])
-        at = 18 + k * len(own)
-        return None if self.map[at : at + len(own)] == own else (at, own)
+    def part(self, bucket, k):
+        return bucket[k * self.page : (k + 1) * self.page]
+
+    def signed(self, bucket, k):
+        """Where the entry of page k stands, and what it would be for the page in this bucket."""
+        own = entry([component(bytes(self.part(bucket, k)), j) for j in range(1, self.n + 1)])
+        return slice(18 + k * len(own), 18 + (k + 1) * len(own)), own
+
+    def whole(self, bucket, k):
+        place, own = self.signed(bucket, k)
+        return self.map[place] == own
 
     def pass_page(self, table, k):
-        found = self.differs(table, k)
-        if found:
-            at, own = found
-            self.image[k * self.page : (k + 1) * self.page] = table[k * self.page : (k + 1) * self.page]
-            self.map[at : at + len(own)] = own
-        return bool(found)
+        if self.whole(table, k):
+            return False
+        place, own = self.signed(table, k)
+        self.image[k * self.page : (k + 1) * self.page] = self.part(table, k)
+        self.map[place] = own
+        return True
 
     def store(self, table, room):
         self.open(len(table), len(self.image))
@@ -172,101 +180,239 @@ class Backup:
         self.open(len(self.image))
         if k >= self.pages:
             raise Refused(9, 0)
-        if self.differs(self.image, k):
+        if not self.whole(self.image, k):
             raise Refused(10, k)
-        return self.image[k * self.page : (k + 1) * self.page]
+        return self.part(self.image, k)
 
     def load_bucket(self, table):
         self.open(len(table), len(self.image))
         for k in range(self.pages):
-            if self.differs(self.image, k):
+            if not self.whole(self.image, k):
                 raise Refused(10, k)
         return self.image
 
 
-def stores_stdout():
-    text = []
-    first = bytes([1, 0, 2, 0, 3, 0, 4, 0, 5, 0, 6])
+def make_map(n, page, image, room):
+    if not 1 <= n <= 4:
+        raise Refused(1, 0)
+    if page % 2 or not 2 <= page <= 65536:
+        raise Refused(2, 0)
+    made = make(n, page, image)
+    if room < len(made):
+        raise Refused(7, len(made))
+    return made
 
-    def refused(r):
-        return "refused %d %d" % r.args
 
-    def made(image):
-        backup = Backup(image)
-        text.extend([f"map: {len(backup.map)} bytes", backup.map.hex()])
-        return backup
+class Script:
+    """What the program `stores` prints for a script, and the script."""
 
-    def store(what, backup, table, numbers):
+    def __init__(self):
+        self.table, self.image, self.map, self.list = bytearray(12), bytearray(12), bytearray(96), [99] * 8
+        self.lent_image = self.lent_map = 0
+        self.given, self.text = b"", []
+
+    def say(self, *lines):
+        self.text.extend(lines)
+
+    def prints(self):
+        return "".join(line + "\n" for line in self.text)
+
+    def do(self, letter, a=0, b=0):
+        self.given += bytes([ord(letter), a, b])
+        buffers = {"T": self.table, "I": self.image, "M": self.map}
+        if letter in buffers:
+            if a < len(buffers[letter]):
+                buffers[letter][a] = b
+        elif letter == "i":
+            self.lent_image = a
+        elif letter == "m":
+            self.lent_map = a
+        elif self.lent_image <= 12 and self.lent_map <= 96:
+            getattr(self, "do_" + letter)(a, b, Backup(self.image[: self.lent_image], self.map[: self.lent_map]))
+
+    def put_back(self, backup):
+        self.image[: self.lent_image], self.map[: self.lent_map] = backup.image, backup.map
+
+    def do_n(self, n, page, backup):
         try:
-            found = backup.store(table, len(numbers))
-            numbers[: len(found)] = found
-            answer = f"{len(found)} written"
+            made = make_map(n, page, bytes(backup.image), self.lent_map)
+            self.map[: len(made)] = made
+            self.say(f"bytes {len(made)}")
         except Refused as r:
-            answer = refused(r)
-        text.extend([f"{what}: {answer}", backup.image.hex(), backup.map.hex(), "".join(f"{k} " for k in numbers)])
+            self.say("refused %d %d" % r.args)
+        self.say(self.map.hex())
 
-    def step(what, backup, table, k):
+    def do_s(self, t, room, backup):
+        if t > 12 or room > 8:
+            return
         try:
-            answer, after = backup.step(table, k)
+            found = backup.store(self.table[:t], room)
+            self.list[: len(found)] = found
+            self.put_back(backup)
+            self.say(f"pages {len(found)}")
         except Refused as r:
-            answer, after = refused(r), k
-        text.extend([f"{what}: {answer}", f"next {after}", backup.image.hex(), backup.map.hex()])
+            self.say("refused %d %d" % r.args)
+        self.say(self.image.hex(), self.map.hex(), *map(str, self.list))
 
-    def load_page(what, backup, k):
+    def do_t(self, k, t, backup):
+        if t > 12:
+            return
         try:
-            answer, part = "loaded", backup.load_page(k)
+            answer, after = backup.step(self.table[:t], k)
+            self.put_back(backup)
         except Refused as r:
-            answer, part = refused(r), b""
-        text.extend([f"{what}: {answer}", part.hex()])
+            answer, after = "refused %d %d" % r.args, k
+        self.say(answer, f"next {after}", self.image.hex(), self.map.hex())
 
-    def load_bucket(what, backup, table):
+    def do_p(self, k, _, backup):
         try:
-            table = backup.load_bucket(table)
-            answer = f"{len(table)} bytes"
+            self.say("loaded", backup.load_page(k).hex())
         except Refused as r:
-            answer = refused(r)
-        text.extend([f"{what}: {answer}", bytes(table).hex()])
+            self.say("refused %d %d" % r.args, "")
 
-    table, numbers, backup = bytearray(first), [99] * 4, made(first)
-    store("nothing changed", backup, table, numbers)
-    table[0], table[2], table[10] = 0, 3, 7
-    store("two flags changed opposite ways, and the last byte", backup, table, numbers)
-    store("once more", backup, table, numbers)
-    backup.image[4] = 200
-    store("an image page damaged behind its entry", backup, table, numbers)
-    backup.map[28] = 9
-    store("an entry that is not its page's", backup, table, numbers)
+    def do_b(self, t, _, backup):
+        if t > 12:
+            return
+        try:
+            moved = backup.load_bucket(self.table[:t])
+            self.table[:t] = moved
+            self.say(f"bytes {len(moved)}")
+        except Refused as r:
+            self.say("refused %d %d" % r.args)
+        self.say(self.table.hex())
 
-    backup = made(bytes([1, 0, 2, 1, 3, 0, 4, 0, 5, 0, 7]))
-    for k in range(5):
-        step(f"step {k}", backup, first, k)
 
-    table, less, numbers, backup = b"\x09" * 11, b"\x09" * 10, [99] * 2, made(first)
-    store("a list of two", backup, table, numbers)
-    store("a short table, a list of two", backup, less, numbers)
-    whole, backup.image = backup.image, bytearray(b"\x08" * 10)
-    store("a short image", backup, table, numbers)
-    short, backup.image = backup.image, whole
-    step("a short table, step 9", backup, less, 9)
-    backup.map[19] = 5
-    store("a broken map, a short table", backup, less, numbers)
-    step("a broken map, step 3", backup, table, 3)
-    load_page("a broken map, page 9", backup, 9)
-    load_bucket("a broken map, the bucket", backup, short)
+def begun(size, n, page):
+    """A table and an image that are the same, and the map made from it."""
+    s = Script()
+    for k in range(size):
+        s.do("T", k, 5 * k + 1)
+        s.do("I", k, 5 * k + 1)
+    s.do("i", size)
+    s.do("m", 96)
+    s.do("n", n, page)
+    s.do("m", len(make(n, page, bytes(s.image[:size]))))
+    return s
 
-    backup = made(first)
-    for k in (0, 2, 3):
-        load_page(f"page {k}", backup, k)
-    load_bucket("the bucket, to a short table", backup, b"\xEE" * 10)
-    backup.image[10] = 7
-    load_page("page 2, damaged", backup, 2)
-    load_page("page 1 beside it", backup, 1)
-    load_bucket("the bucket with page 2 damaged", backup, b"\xEE" * 11)
-    backup.image[5] = 1
-    load_bucket("the bucket with pages 1 and 2 damaged", backup, b"\xEE" * 11)
-    backup.image[5], backup.image[10] = 0, 6
-    load_bucket("the bucket", backup, b"\xEE" * 11)
-    return "\n".join(text) + "\n"
+
+def stores():
+    s = begun(11, 2, 4)
+    s.do("s", 11, 8)
+    s.do("T", 0, s.table[0] - 1)  # two flags of one page, opposite ways
+    s.do("T", 2, s.table[2] + 1)
+    s.do("T", 10, 7)
+    s.do("s", 11, 3)
+    s.do("s", 11, 3)
+    s.do("I", 4, 200)  # an image page damaged behind its entry is kept
+    s.do("s", 11, 3)
+    s.do("M", 28, 9)  # an entry that is not its page's is written
+    s.do("s", 11, 3)
+    return s
+
+
+def steps():
+    s = begun(11, 2, 4)
+    s.do("T", 3, 250)
+    s.do("T", 10, 250)
+    for k in (0, 1, 2, 3, 4, 255, 0):
+        s.do("t", k, 11)
+    return s
+
+
+def refusals():
+    s = begun(11, 2, 4)
+    for k in range(11):
+        s.do("T", k, 9)
+    for table, room in ((11, 2), (10, 2), (12, 8)):
+        s.do("s", table, room)
+        s.do("t", 9, table)
+    s.do("b", 10)
+    s.do("p", 3)
+    s.do("M", 19, 5)  # a broken entry comes before all else
+    s.do("s", 10, 2)
+    s.do("t", 9, 10)
+    s.do("p", 9)
+    s.do("b", 10)
+    s.do("M", 19, 4)
+    s.do("m", 38)
+    s.do("s", 11, 8)
+    s.do("m", 40)
+    s.do("t", 0, 11)
+    s.do("m", 39)
+    s.do("i", 10)
+    s.do("s", 11, 8)
+    s.do("p", 0)
+    return s
+
+
+def loads():
+    s = begun(11, 3, 4)
+    for k in range(4):
+        s.do("p", k)
+    s.do("T", 5, 0)
+    s.do("b", 11)
+    s.do("I", 10, 7)  # the short last page
+    for k in range(3):
+        s.do("p", k)
+    s.do("T", 5, 0)
+    s.do("b", 11)
+    s.do("I", 5, 1)
+    s.do("b", 11)
+    return s
+
+
+def empty():
+    s = begun(0, 4, 2)
+    s.do("s", 0, 0)
+    s.do("t", 0, 0)
+    s.do("t", 1, 0)
+    s.do("p", 0)
+    s.do("b", 0)
+    s.do("b", 1)
+    return s
+
+
+def at_random(seed):
+    """Sizes, edits, damage and calls by chance, most of them calls that are not refused."""
+    chance = random.Random(seed)
+    s = Script()
+    for _ in range(20):
+        size, n, page = chance.randint(0, 12), chance.randint(0, 5), chance.randint(0, 13)
+        for k in range(size):
+            s.do("I", k, chance.randint(0, 255))
+        s.do("i", size)
+        s.do("m", 96)
+        s.do("n", n, page)
+        if not (1 <= n <= 4 and page % 2 == 0 and page):
+            continue
+        pages = -(-size // page)
+        whole = 18 + pages * (3 + 2 * n)
+        s.do("m", whole + (chance.choice((-1, 1)) if chance.random() < 0.1 else 0))
+        for _ in range(30):
+            letter = chance.choice("TTTIMststpb")
+            table = size if chance.random() < 0.9 else chance.randint(0, 12)
+            if letter == "T":
+                s.do("T", chance.randint(0, 11), chance.randint(0, 255))
+            elif letter == "I" and chance.random() < 0.3:
+                s.do("I", chance.randint(0, 11), chance.randint(0, 255))
+            elif letter == "M" and chance.random() < 0.3:
+                s.do("M", chance.randint(18, 95) if chance.random() < 0.8 else chance.randint(0, 17), chance.choice((0, 1, 2, 4, 5, 255)))
+            elif letter == "s":
+                s.do("s", table, min(8, pages) if chance.random() < 0.8 else chance.randint(0, 8))
+            elif letter == "t":
+                s.do("t", chance.randint(0, pages + 1), table)
+            elif letter == "p":
+                s.do("p", chance.randint(0, pages))
+            elif letter == "b":
+                s.do("b", table)
+    return s
+
+
+def stores_runs():
+    for run in (steps, refusals, loads, empty):
+        yield run.__name__, run()
+    for seed in range(1, 5):
+        yield f"random-{seed}", at_random(seed)
 
 
 def write(path, content):
@@ -279,4 +425,8 @@ for name, given, prints in maplist_runs():
     write(f"{here}/maplist/{name}.in", given)
     write(f"{here}/maplist/{name}.out", prints.encode())
 write(f"{here}/../crates/maps/stdout", maps_stdout().encode())
-write(f"{here}/../crates/stores/stdout", stores_stdout().encode())
+for name, script in stores_runs():
+    write(f"{here}/stores/{name}.in", script.given)
+    write(f"{here}/stores/{name}.out", script.prints().encode())
+write(f"{here}/../crates/stores/stdin", stores().given)
+write(f"{here}/../crates/stores/stdout", stores().prints().encode())

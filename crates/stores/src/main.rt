@@ -1,5 +1,6 @@
-// Stores, steps and loads on a bucket of eleven bytes in pages of four. A line has the answer, and below it what image, map and list hold then.
-// The file `stdout` beside this has what they should be, from a program with tables of logarithms.
+// Runs a script on one small backup. A command on standard input is three bytes, a letter and two numbers; each that asks something of the library prints
+// the answer and what the buffers hold then, those parts too that were not lent. Commands for which the buffers are too short are passed over.
+use libc::STDIN_FILENO;
 use libc::STDOUT_FILENO;
 use store::Answer;
 use store::Place;
@@ -9,127 +10,69 @@ use units::Listed;
 use units::Refusal;
 use units::Verdict;
 
+// How much of the image and of the map is lent.
+struct Lent {
+    image: usize,
+    map: usize,
+}
+
 fn main() {
-    stores();
-    steps();
-    refusals();
-    loads();
+    let mut script = [0u8; 6144];
+    let got = io::read_full(STDIN_FILENO, &mut script);
+    let mut table = [0u8; 12];
+    let mut image = [0u8; 12];
+    let mut map = [0u8; 96];
+    let mut list = [99usize; 8];
+    run(&script[..got], &mut table, &mut image, &mut map, &mut list);
 }
 
-fn stores() {
-    let mut table = [1, 0, 2, 0, 3, 0, 4, 0, 5, 0, 6];
-    let mut image = [1, 0, 2, 0, 3, 0, 4, 0, 5, 0, 6];
-    let mut map = [0; 39];
-    let mut list: [usize; 4] = [99; 4];
-    stores_of(&mut table, &mut image, &mut map, &mut list);
+fn run(script: &[u8], table: &mut [u8], image: &mut [u8], map: &mut [u8], list: &mut [usize]) {
+    let mut lent = Lent { image: 0, map: 0 };
+    let mut at: usize = 0;
+    while script.len() - at > 2 {
+        let a = script[at + 1];
+        let b = script[at + 2];
+        lent = command(script[at], a, b, lent, table, image, map, list);
+        at += 3;
+    }
 }
 
-fn stores_of(table: &mut [u8], image: &mut [u8], map: &mut [u8], list: &mut [usize]) {
-    make(image, map);
-    store(b"nothing changed: ", table, image, map, list);
-    set(table, 0, 0);
-    set(table, 2, 3);
-    set(table, 10, 7);
-    store(
-        b"two flags changed opposite ways, and the last byte: ",
-        table,
-        image,
-        map,
-        list,
-    );
-    store(b"once more: ", table, image, map, list);
-    set(image, 4, 200);
-    store(
-        b"an image page damaged behind its entry: ",
-        table,
-        image,
-        map,
-        list,
-    );
-    set(map, 28, 9);
-    store(
-        b"an entry that is not its page's: ",
-        table,
-        image,
-        map,
-        list,
-    );
-}
-
-fn steps() {
-    let table = [1, 0, 2, 0, 3, 0, 4, 0, 5, 0, 6];
-    let mut image = [1, 0, 2, 1, 3, 0, 4, 0, 5, 0, 7];
-    let mut map = [0; 39];
-    steps_of(&table, &mut image, &mut map);
-}
-
-fn steps_of(table: &[u8], image: &mut [u8], map: &mut [u8]) {
-    make(image, map);
-    step(b"step 0: ", 0, table, image, map);
-    step(b"step 1: ", 1, table, image, map);
-    step(b"step 2: ", 2, table, image, map);
-    step(b"step 3: ", 3, table, image, map);
-    step(b"step 4: ", 4, table, image, map);
-}
-
-fn refusals() {
-    let table = [9; 11];
-    let less = [9; 10];
-    let mut image = [1, 0, 2, 0, 3, 0, 4, 0, 5, 0, 6];
-    let mut short = [8; 10];
-    let mut map = [0; 39];
-    let mut list: [usize; 2] = [99; 2];
-    refusals_of(&table, &less, &mut image, &mut short, &mut map, &mut list);
-}
-
-fn refusals_of(
-    table: &[u8],
-    less: &[u8],
+fn command(
+    letter: u8,
+    a: u8,
+    b: u8,
+    lent: Lent,
+    table: &mut [u8],
     image: &mut [u8],
-    short: &mut [u8],
     map: &mut [u8],
     list: &mut [usize],
-) {
-    make(image, map);
-    store(b"a list of two: ", table, image, map, list);
-    store(b"a short table, a list of two: ", less, image, map, list);
-    store(b"a short image: ", table, short, map, list);
-    step(b"a short table, step 9: ", 9, less, image, map);
-    set(map, 19, 5);
-    store(b"a broken map, a short table: ", less, image, map, list);
-    step(b"a broken map, step 3: ", 3, table, image, map);
-    load_page(b"a broken map, page 9: ", image, map, 9);
-    load_bucket(b"a broken map, the bucket: ", image, map, short);
-}
-
-fn loads() {
-    let mut image = [1, 0, 2, 0, 3, 0, 4, 0, 5, 0, 6];
-    let mut map = [0; 39];
-    let mut table = [0xEE; 11];
-    let mut less = [0xEE; 10];
-    loads_of(&mut image, &mut map, &mut table, &mut less);
-}
-
-fn loads_of(image: &mut [u8], map: &mut [u8], table: &mut [u8], less: &mut [u8]) {
-    make(image, map);
-    load_page(b"page 0: ", image, map, 0);
-    load_page(b"page 2: ", image, map, 2);
-    load_page(b"page 3: ", image, map, 3);
-    load_bucket(b"the bucket, to a short table: ", image, map, less);
-    set(image, 10, 7);
-    load_page(b"page 2, damaged: ", image, map, 2);
-    load_page(b"page 1 beside it: ", image, map, 1);
-    load_bucket(b"the bucket with page 2 damaged: ", image, map, table);
-    set(image, 5, 1);
-    load_bucket(
-        b"the bucket with pages 1 and 2 damaged: ",
-        image,
-        map,
-        table,
-    );
-    set(image, 5, 0);
-    set(image, 10, 6);
-    load_bucket(b"the bucket: ", image, map, table);
+) -> Lent {
+    let x = a as usize;
+    let y = b as usize;
+    match letter {
+        b'T' => set(table, x, b),
+        b'I' => set(image, x, b),
+        b'M' => set(map, x, b),
+        b'i' => {
+            return Lent {
+                image: x,
+                map: lent.map,
+            };
+        }
+        b'm' => {
+            return Lent {
+                image: lent.image,
+                map: x,
+            };
+        }
+        b'n' => make(x, y, lent, image, map),
+        b's' => store(x, y, lent, table, image, map, list),
+        b't' => step(x, y, lent, table, image, map),
+        b'p' => load_page(x, lent, image, map),
+        b'b' => load_bucket(x, lent, image, map, table),
+        _ => {}
+    }
+    lent
 }
 
 fn set(b: &mut [u8], i: usize, x: u8) {
@@ -138,80 +81,138 @@ fn set(b: &mut [u8], i: usize, x: u8) {
     }
 }
 
-fn make(image: &[u8], map: &mut [u8]) {
-    text(b"map: ");
-    filled(map::make(2, Bytes { count: 4 }, image, map));
+// The map of the image, with n components and pages of so many bytes.
+fn make(n: usize, page: usize, lent: Lent, image: &[u8], map: &mut [u8]) {
+    let i = lent.image;
+    let m = lent.map;
+    if i > image.len() {
+        return;
+    }
+    if m > map.len() {
+        return;
+    }
+    filled(map::make(n, Bytes { count: page }, &image[..i], &mut map[..m]));
     bytes(map);
 }
 
-fn store(what: &[u8], table: &[u8], image: &mut [u8], map: &mut [u8], list: &mut [usize]) {
-    text(what);
-    let answer = store::store(table, image, map, list);
-    match answer {
-        Listed::Numbers(count) => {
-            decimal(count);
-            text(b" written\n");
-        }
-        Listed::Refused(r) => refused(r),
+fn store(
+    t: usize,
+    l: usize,
+    lent: Lent,
+    table: &[u8],
+    image: &mut [u8],
+    map: &mut [u8],
+    list: &mut [usize],
+) {
+    let i = lent.image;
+    let m = lent.map;
+    if t > table.len() {
+        return;
     }
+    if i > image.len() {
+        return;
+    }
+    if m > map.len() {
+        return;
+    }
+    if l > list.len() {
+        return;
+    }
+    listed(store::store(&table[..t], &mut image[..i], &mut map[..m], &mut list[..l]));
     bytes(image);
     bytes(map);
     numbers(list);
 }
 
-fn step(what: &[u8], page: usize, table: &[u8], image: &mut [u8], map: &mut [u8]) {
-    text(what);
-    let place = Place { page };
-    let step = place.step(table, image, map);
-    let answer = step.answer;
-    match answer {
-        Answer::Kept(k) => passed(b"kept ", k),
-        Answer::Written(k) => passed(b"written ", k),
-        Answer::Finished => text(b"finished\n"),
-        Answer::Refused(r) => refused(r),
+fn step(page: usize, t: usize, lent: Lent, table: &[u8], image: &mut [u8], map: &mut [u8]) {
+    let i = lent.image;
+    let m = lent.map;
+    if t > table.len() {
+        return;
     }
+    if i > image.len() {
+        return;
+    }
+    if m > map.len() {
+        return;
+    }
+    let place = Place { page };
+    let step = place.step(&table[..t], &mut image[..i], &mut map[..m]);
+    let answer = step.answer;
+    stepped(answer);
     passed(b"next ", step.next.page);
     bytes(image);
     bytes(map);
 }
 
-fn load_page(what: &[u8], image: &[u8], map: &[u8], k: usize) {
-    text(what);
-    let answer = load::ask_page(image, map, k);
-    match answer {
-        Verdict::Allowed => text(b"loaded\n"),
-        Verdict::Refused(r) => refused(r),
+fn load_page(k: usize, lent: Lent, image: &[u8], map: &[u8]) {
+    let i = lent.image;
+    let m = lent.map;
+    if i > image.len() {
+        return;
     }
-    bytes(load::load_page(image, map, k));
+    if m > map.len() {
+        return;
+    }
+    asked(load::ask_page(&image[..i], &map[..m], k));
+    bytes(load::load_page(&image[..i], &map[..m], k));
 }
 
-fn load_bucket(what: &[u8], image: &[u8], map: &[u8], table: &mut [u8]) {
-    text(what);
-    filled(load::load_bucket(image, map, table));
+fn load_bucket(t: usize, lent: Lent, image: &[u8], map: &[u8], table: &mut [u8]) {
+    let i = lent.image;
+    let m = lent.map;
+    if t > table.len() {
+        return;
+    }
+    if i > image.len() {
+        return;
+    }
+    if m > map.len() {
+        return;
+    }
+    filled(load::load_bucket(&image[..i], &map[..m], &mut table[..t]));
     bytes(table);
 }
 
 fn filled(a: Filled) {
     match a {
-        Filled::Written(b) => {
-            decimal(b.count);
-            text(b" bytes\n");
-        }
+        Filled::Written(b) => passed(b"bytes ", b.count),
         Filled::Refused(r) => refused(r),
+    }
+}
+
+fn listed(a: Listed) {
+    match a {
+        Listed::Numbers(count) => passed(b"pages ", count),
+        Listed::Refused(r) => refused(r),
+    }
+}
+
+fn stepped(a: Answer) {
+    match a {
+        Answer::Kept(k) => passed(b"kept ", k),
+        Answer::Written(k) => passed(b"written ", k),
+        Answer::Finished => text(b"finished\n"),
+        Answer::Refused(r) => refused(r),
+    }
+}
+
+fn asked(v: Verdict) {
+    match v {
+        Verdict::Allowed => text(b"loaded\n"),
+        Verdict::Refused(r) => refused(r),
     }
 }
 
 fn refused(r: Refusal) {
     text(b"refused ");
     decimal(r.number as usize);
-    text(b" ");
-    decimal(r.value);
-    text(b"\n");
+    passed(b" ", r.value);
 }
 
-fn passed(word: &[u8], k: usize) {
+fn passed(word: &[u8], x: usize) {
     text(word);
-    decimal(k);
+    decimal(x);
     text(b"\n");
 }
 
@@ -227,11 +228,9 @@ fn bytes(b: &[u8]) {
 fn numbers(l: &[usize]) {
     let mut i: usize = 0;
     while i < l.len() {
-        decimal(l[i]);
-        text(b" ");
+        passed(b"", l[i]);
         i += 1;
     }
-    text(b"\n");
 }
 
 fn decimal(x: usize) {

@@ -6,32 +6,28 @@ use Rattle.stores.proofs.numbers.Statement.{statement}
 use Rattle.stores.proofs.numbers.Tie as tie
 use Rattle.stores.proofs.numbers.Reads as reads
 use Rattle.stores.proofs.numbers.Lts as lts
-use Rattle.stores.proofs.decimal.Reads as decimal-reads
-use Rattle.stores.proofs.text.Reads as text-reads
+use Rattle.stores.proofs.passed.Reads as passed-reads
 
 abbrev Inv-loop : tie.InvT-loop
-Inv-loop l i₀ t3 t4 i = Unit {0}
+Inv-loop l i₀ t3 i = Unit {0}
 
 abbrev μ-loop : tie.MeasureT-loop
-μ-loop l i₀ t3 t4 i = length l - i
+μ-loop l i₀ t3 i = length l - i
 
 loop-holds : tie.Need-loop-holds Inv-loop μ-loop
 loop-holds c = tt
 
-mul-decimal : tie.Need-mul-decimal Inv-loop μ-loop
-mul-decimal c = search needs
+slice-aggregate-passed : tie.Need-slice-aggregate-passed Inv-loop μ-loop
+slice-aggregate-passed c = search needs
 
-shared-slice-read-decimal : tie.Need-shared-slice-read-decimal Inv-loop μ-loop
-shared-slice-read-decimal c = search needs
+mul-passed : tie.Need-mul-passed Inv-loop μ-loop
+mul-passed c = search needs
 
-decimal-requires : tie.Need-decimal-requires Inv-loop μ-loop
-decimal-requires c κs = search needs
+shared-slice-read-passed : tie.Need-shared-slice-read-passed Inv-loop μ-loop
+shared-slice-read-passed c = search needs
 
-slice-aggregate-text : tie.Need-slice-aggregate-text Inv-loop μ-loop
-slice-aggregate-text c = search needs
-
-text-requires : tie.Need-text-requires Inv-loop μ-loop
-text-requires c κs = search needs
+passed-requires : tie.Need-passed-requires Inv-loop μ-loop
+passed-requires c κs = search needs
 
 add-i : tie.Need-add-i Inv-loop μ-loop
 add-i c = search needs
@@ -41,12 +37,6 @@ loop-less c = omega arith
 
 loop-again : tie.Need-loop-again Inv-loop μ-loop
 loop-again c = tt
-
-slice-aggregate-text-2 : tie.Need-slice-aggregate-text-2 Inv-loop μ-loop
-slice-aggregate-text-2 c = search needs
-
-text-requires-2 : tie.Need-text-requires-2 Inv-loop μ-loop
-text-requires-2 c κs = search needs
 
 returns : tie.Need-returns Inv-loop μ-loop
 returns c = search needs
@@ -58,14 +48,11 @@ numbers-spec =
     Inv-loop
     μ-loop
     loop-holds
-    mul-decimal
-    shared-slice-read-decimal
-    decimal-requires
-    slice-aggregate-text
-    text-requires
+    slice-aggregate-passed
+    mul-passed
+    shared-slice-read-passed
+    passed-requires
     add-i
     loop-less
     loop-again
-    slice-aggregate-text-2
-    text-requires-2
     returns)

@@ -1,0 +1,60 @@
+use lib.Seq.{length-take-le}
+use mathlib.Core.Path.{sym}
+use borrow.Author.Needs.{needs}
+use Rattle.stores.proofs.load_page.Statement.{statement}
+use Rattle.stores.proofs.load_page.Tie as tie
+use Rattle.stores.proofs.load_page.Reads as reads
+use Rattle.stores.proofs.load_page.Lts as lts
+use Rattle.load.proofs.ask_page.Reads as ask-page-reads
+use Rattle.load.proofs.load_page.Reads as load-page-reads
+use Rattle.stores.proofs.asked.Reads as asked-reads
+use Rattle.stores.proofs.bytes.Reads as bytes-reads
+
+returns : tie.Need-returns
+returns c = search needs
+
+returns-2 : tie.Need-returns-2
+returns-2 c = search needs
+
+slice-aggregate-ask-page : tie.Need-slice-aggregate-ask-page
+slice-aggregate-ask-page c = sym (length-take-le _ _ (c .before .before .if1 .left))
+
+slice-aggregate-ask-page-2 : tie.Need-slice-aggregate-ask-page-2
+slice-aggregate-ask-page-2 c = sym (length-take-le _ _ (c .before .before .if2 .left))
+
+ask-page-requires : tie.Need-ask-page-requires
+ask-page-requires c κs = search needs
+
+asked-requires : tie.Need-asked-requires
+asked-requires c κs = search needs
+
+slice-aggregate-load-page : tie.Need-slice-aggregate-load-page
+slice-aggregate-load-page c = sym (length-take-le _ _ (c .before .before .before .before .before .before .if1 .left))
+
+slice-aggregate-load-page-2 : tie.Need-slice-aggregate-load-page-2
+slice-aggregate-load-page-2 c = sym (length-take-le _ _ (c .before .before .before .before .before .before .if2 .left))
+
+load-page-requires : tie.Need-load-page-requires
+load-page-requires c κs = search needs
+
+bytes-requires : tie.Need-bytes-requires
+bytes-requires c κs = search needs
+
+returns-3 : tie.Need-returns-3
+returns-3 c = search needs
+
+pub load-page-spec : {M : Type 1} → statement M
+load-page-spec =
+    tie.close
+    (tie.spec
+    returns
+    returns-2
+    slice-aggregate-ask-page
+    slice-aggregate-ask-page-2
+    ask-page-requires
+    asked-requires
+    slice-aggregate-load-page
+    slice-aggregate-load-page-2
+    load-page-requires
+    bytes-requires
+    returns-3)

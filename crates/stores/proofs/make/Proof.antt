@@ -1,0 +1,55 @@
+use lib.Seq.{length-take-le}
+use mathlib.Core.Path.{sym}
+use borrow.Author.Needs.{needs}
+use Rattle.stores.proofs.make.Statement.{statement}
+use Rattle.stores.proofs.make.Tie as tie
+use Rattle.stores.proofs.make.Reads as reads
+use Rattle.stores.proofs.make.Lts as lts
+use Rattle.map.proofs.make.Reads as make-reads
+use Rattle.stores.proofs.bytes.Reads as bytes-reads
+use Rattle.stores.proofs.filled.Reads as filled-reads
+
+returns : tie.Need-returns
+returns c = search needs
+
+returns-2 : tie.Need-returns-2
+returns-2 c = search needs
+
+slice-aggregate-make : tie.Need-slice-aggregate-make
+slice-aggregate-make c = sym (length-take-le _ _ (c .before .before .if1 .left))
+
+slice-relend-prefix-make : tie.Need-slice-relend-prefix-make
+slice-relend-prefix-make c = search needs
+
+slice-aggregate-make-2 : tie.Need-slice-aggregate-make-2
+slice-aggregate-make-2 c = sym (length-take-le _ _ (c .before .before .if2 .left))
+
+make-requires : tie.Need-make-requires
+make-requires c κs = search needs
+
+filled-requires : tie.Need-filled-requires
+filled-requires c κs = search needs
+
+bytes-requires : tie.Need-bytes-requires
+bytes-requires c κs = search needs
+
+same-length : tie.Need-same-length
+same-length c = search needs
+
+returns-3 : tie.Need-returns-3
+returns-3 c = search needs
+
+pub make-spec : {M : Type 1} → statement M
+make-spec =
+    tie.close
+    (tie.spec
+    returns
+    returns-2
+    slice-aggregate-make
+    slice-relend-prefix-make
+    slice-aggregate-make-2
+    make-requires
+    filled-requires
+    bytes-requires
+    same-length
+    returns-3)

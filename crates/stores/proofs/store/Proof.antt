@@ -1,0 +1,96 @@
+use lib.Seq.{length-take-le}
+use mathlib.Core.Path.{sym}
+use borrow.Author.Needs.{needs}
+use Rattle.stores.proofs.store.Statement.{statement}
+use Rattle.stores.proofs.store.Tie as tie
+use Rattle.stores.proofs.store.Reads as reads
+use Rattle.stores.proofs.store.Lts as lts
+use Rattle.store.proofs.store.Reads as store-reads
+use Rattle.stores.proofs.bytes.Reads as bytes-reads
+use Rattle.stores.proofs.listed.Reads as listed-reads
+use Rattle.stores.proofs.numbers.Reads as numbers-reads
+
+returns : tie.Need-returns
+returns c = search needs
+
+returns-2 : tie.Need-returns-2
+returns-2 c = search needs
+
+returns-3 : tie.Need-returns-3
+returns-3 c = search needs
+
+returns-4 : tie.Need-returns-4
+returns-4 c = search needs
+
+slice-aggregate-store : tie.Need-slice-aggregate-store
+slice-aggregate-store c = sym (length-take-le _ _ (c .before .before .before .before .if1 .left))
+
+slice-relend-prefix-store : tie.Need-slice-relend-prefix-store
+slice-relend-prefix-store c = search needs
+
+slice-aggregate-store-2 : tie.Need-slice-aggregate-store-2
+slice-aggregate-store-2 c = sym (length-take-le _ _ (c .before .before .before .before .if2 .left))
+
+slice-relend-prefix-store-2 : tie.Need-slice-relend-prefix-store-2
+slice-relend-prefix-store-2 c = search needs
+
+slice-aggregate-store-3 : tie.Need-slice-aggregate-store-3
+slice-aggregate-store-3 c = sym (length-take-le _ _ (c .before .before .before .before .if3 .left))
+
+slice-relend-prefix-store-3 : tie.Need-slice-relend-prefix-store-3
+slice-relend-prefix-store-3 c = search needs
+
+slice-aggregate-store-4 : tie.Need-slice-aggregate-store-4
+slice-aggregate-store-4 c = sym (length-take-le _ _ (c .before .before .before .before .if4 .left))
+
+store-requires : tie.Need-store-requires
+store-requires c κs = search needs
+
+listed-requires : tie.Need-listed-requires
+listed-requires c κs = search needs
+
+bytes-requires : tie.Need-bytes-requires
+bytes-requires c κs = search needs
+
+bytes-requires-2 : tie.Need-bytes-requires-2
+bytes-requires-2 c κs = search needs
+
+numbers-requires : tie.Need-numbers-requires
+numbers-requires c κs = search needs
+
+same-length : tie.Need-same-length
+same-length c = search needs
+
+same-length-2 : tie.Need-same-length-2
+same-length-2 c = search needs
+
+same-length-3 : tie.Need-same-length-3
+same-length-3 c = search needs
+
+returns-5 : tie.Need-returns-5
+returns-5 c = search needs
+
+pub store-spec : {M : Type 1} → statement M
+store-spec =
+    tie.close
+    (tie.spec
+    returns
+    returns-2
+    returns-3
+    returns-4
+    slice-aggregate-store
+    slice-relend-prefix-store
+    slice-aggregate-store-2
+    slice-relend-prefix-store-2
+    slice-aggregate-store-3
+    slice-relend-prefix-store-3
+    slice-aggregate-store-4
+    store-requires
+    listed-requires
+    bytes-requires
+    bytes-requires-2
+    numbers-requires
+    same-length
+    same-length-2
+    same-length-3
+    returns-5)
