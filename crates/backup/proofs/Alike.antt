@@ -1,6 +1,6 @@
 -- Backups with one image, and the same entries for the bucket's pages: a page stored leaves them so, and their files are the same.
 -- Assumes nothing.
-use mathlib.Core.Path.{_≡_, refl, sym, ap, ap₂, _∙_}
+use mathlib.Core.Path.{_≡_, sym, ap, ap₂, _∙_}
 use mathlib.Core.Logic.{dite}
 use mathlib.Core.Bool.{Bool, cond}
 use mathlib.Core.List.{List, _++_}
@@ -13,8 +13,8 @@ use Rattle.signature.specs.Operations.{own}
 use Rattle.map.specs.Buckets.{pageAt}
 use Rattle.map.specs.Files.{pages, entry, file, header}
 use Rattle.map.specs.Making.{madeEntry}
-use Rattle.map.specs.declared.Header.{Header}
 use Rattle.map.specs.declared.Entry.{Entry}
+use Rattle.map.specs.declared.Header.{Header}
 use Rattle.map.proofs.Runs.{run-same}
 use Rattle.backup.specs.Backups.{Backup, same, agrees, pageWritten, pageStored}
 use Rattle.backup.proofs.Storing.{by-page, stored-entry, stored-entry-else}

@@ -1,9 +1,9 @@
 -- One entry written over in a map's file: the file is that of the entries with the new one among them.
 -- Assumes nothing.
 use mathlib.Core.Path.{_≡_, refl, sym, ap, ap₂, _∙_, subst}
-use mathlib.Core.Bool.{true, false, cond}
+use mathlib.Core.Bool.{cond}
 use mathlib.Core.List.{List, _++_, append-assoc}
-use Prim.Native.Nat.{ℕ, suc, _+_, _-_, _*_, _≤_, _<_}
+use Prim.Native.Nat.{ℕ, suc, _+_, _-_, _≤_, _<_}
 use native.Mathlib.Nat.{zero-add, le-of-lt}
 use native.Mathlib.Omega.{arith}
 use lib.Dec.{eqb}
@@ -13,8 +13,8 @@ use Rattle.units.specs.Writing.{written}
 use Rattle.units.proofs.Writing.{written-over}
 use Rattle.signature.specs.declared.Signature.{Signature}
 use Rattle.map.specs.Files.{pages, header, entry, entries, file, entryPut, entryBytes, place}
-use Rattle.map.specs.declared.Header.{Header}
 use Rattle.map.specs.declared.Entry.{Entry}
+use Rattle.map.specs.declared.Header.{Header}
 use Rattle.map.proofs.Contents.{Sized, Held, file-length, entries-length}
 use Rattle.map.proofs.MadeMaps.{entry-inside}
 use Rattle.map.proofs.Runs.{run-at, run-same}

@@ -1,7 +1,7 @@
 -- What is known when a backup opens, and when it does not: the map's reading decides, then the lengths, then the operation's own tests.
 -- Assumes nothing.
 use mathlib.Core.Path.{_≡_, refl, sym, ap, _∙_, subst}
-use mathlib.Core.Bool.{Bool, true, false, _&&_}
+use mathlib.Core.Bool.{false}
 use mathlib.Core.List.{List, [], _∷_}
 use Prim.Native.Nat.{ℕ}
 use native.Mathlib.Omega.{arith}
@@ -19,7 +19,6 @@ use Rattle.map.specs.declared.Reading.the-variants.{Holds, Breaks}
 use Rattle.map.proofs.Fields.{halves}
 use Rattle.map.proofs.Holding.{holds-header}
 use Rattle.backup.specs.Openings.{breaks, matchTest, openTests, opened, opening}
-use Rattle.backup.specs.declared.Opening.{Opening}
 use Rattle.backup.specs.declared.Opening.the-variants.{Open, Refused}
 
 module _ (one other : ℕ) (map : List ℕ) where

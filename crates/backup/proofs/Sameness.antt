@@ -1,7 +1,7 @@
 -- Two signatures that are the same component by component are one signature; and what it takes to say that a page agrees with its entry.
 -- Assumes nothing.
 use mathlib.Core.Path.{_≡_, refl, sym, ap, ap₂, _∙_}
-use mathlib.Core.Bool.{Bool, true, false, _&&_}
+use mathlib.Core.Bool.{Bool, true, _&&_}
 use mathlib.Core.List.{List}
 use Prim.Native.Nat.{ℕ}
 use lib.Dec.{eqb}
@@ -10,8 +10,8 @@ use Rattle.signature.specs.Kinds.{wide}
 use Rattle.signature.specs.Operations.{own}
 use Rattle.signature.specs.declared.Signature.{Signature}
 use Rattle.map.specs.Buckets.{pageAt}
-use Rattle.map.specs.declared.Header.{Header}
 use Rattle.map.specs.declared.Entry.{Entry}
+use Rattle.map.specs.declared.Header.{Header}
 use Rattle.map.proofs.Fields.{halves}
 use Rattle.backup.specs.Backups.{same, agrees}
 

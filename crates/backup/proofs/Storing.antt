@@ -8,23 +8,20 @@ use Prim.Native.Nat.{ℕ, zero, suc, _-_, _*_, _≤_, _<_, min}
 use native.Mathlib.Nat.{not-suc-le-zero, le-refl}
 use native.Mathlib.Decide.{ℕ-discrete}
 use native.Mathlib.Omega.{arith}
-use lib.Dec.{eqb}
 use lib.ListN.{length}
-use borrow.Author.Tests.{eq-eqb, ne-eqb, leb-true}
-use Rattle.units.specs.Counts.{pagesIn}
+use borrow.Author.Tests.{eq-eqb, ne-eqb}
 use Rattle.units.specs.Writing.{written}
 use Rattle.units.proofs.Pieces.{piece-begins}
 use Rattle.units.proofs.Writing.{written-length}
-use Rattle.signature.specs.Objects.{Octets}
 use Rattle.signature.specs.Kinds.{wide}
+use Rattle.signature.specs.Objects.{Octets}
 use Rattle.signature.specs.Operations.{own}
 use Rattle.map.specs.Buckets.{pageAt}
 use Rattle.map.specs.Files.{pages}
 use Rattle.map.specs.Making.{madeEntry}
-use Rattle.map.specs.declared.Header.{Header}
 use Rattle.map.specs.declared.Entry.{Entry}
-use Rattle.map.proofs.Contents.{Sized, Held}
-use Rattle.map.proofs.Fields.{halves}
+use Rattle.map.specs.declared.Header.{Header}
+use Rattle.map.proofs.Contents.{Held}
 use Rattle.map.proofs.Maps.{made-held}
 use Rattle.backup.specs.Backups.{Backup, same, agrees, pageWritten, pageStored, stored}
 use Rattle.backup.proofs.Entered.{AllHeld}

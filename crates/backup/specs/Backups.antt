@@ -1,7 +1,7 @@
 -- A backup, said over pages and entries: when a page agrees with its entry, and what a store makes of one page and of all.
-use Prim.Native.Nat.{ℕ, zero, suc, _*_}
 use mathlib.Core.Bool.{Bool, not, cond, _&&_}
 use mathlib.Core.List.{List}
+use Prim.Native.Nat.{ℕ, zero, suc, _*_}
 use lib.Dec.{eqb}
 use Rattle.units.specs.Naming.{named}
 use Rattle.units.specs.Writing.{written}
@@ -9,10 +9,10 @@ use Rattle.signature.specs.Kinds.{wide}
 use Rattle.signature.specs.Operations.{own}
 use Rattle.signature.specs.declared.Signature.{Signature}
 use Rattle.map.specs.Buckets.{pageAt}
-use Rattle.map.specs.Reading.{entryAt}
 use Rattle.map.specs.Making.{madeEntry}
-use Rattle.map.specs.declared.Header.{Header}
+use Rattle.map.specs.Reading.{entryAt}
 use Rattle.map.specs.declared.Entry.{Entry}
+use Rattle.map.specs.declared.Header.{Header}
 
 -- the image of a bucket, and an entry for each page
 pub record Backup : Type 0 where

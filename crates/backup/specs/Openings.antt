@@ -1,7 +1,7 @@
 -- What stands before every store and load: the map is read, and the lengths that belong together are compared.
-use Prim.Native.Nat.{ℕ}
 use mathlib.Core.Bool.{Bool, true, false, not, _&&_}
 use mathlib.Core.List.{List, [], _∷_}
+use Prim.Native.Nat.{ℕ}
 use lib.Dec.{eqb}
 use Rattle.units.specs.Refusals.{Test, gives, first, MAP, MATCH}
 use Rattle.units.specs.declared.Verdict.{Verdict}

@@ -1,41 +1,38 @@
 -- What holds of every load: no second answer, refusals exactly when the table says, and nothing but what the image holds handed out.
 -- Assumes nothing.
-use mathlib.Core.Path.{_≡_, refl, sym, ap, ap₂, _∙_, subst}
-use mathlib.Core.Logic.{_↔_, _≢_}
-use mathlib.Core.Bool.{Bool, true, false, not}
+use mathlib.Core.Path.{_≡_, refl, sym, ap, _∙_}
+use mathlib.Core.Logic.{_↔_}
+use mathlib.Core.Bool.{not}
 use mathlib.Core.List.{List, []}
-use Prim.Native.Nat.{ℕ, _+_, _-_, _*_, _≤_, _<_, min}
+use Prim.Native.Nat.{ℕ, _-_, _*_, _<_, min}
 use native.Mathlib.Omega.{arith}
 use lib.ListN.{length}
-use borrow.Author.Tests.{leb-false, lt-leb, lt-ltb, not-false, ltb-false}
+use borrow.Author.Tests.{leb-false}
 use denote.Ref.{now}
 use Rattle.units.specs.Filling.{outcome, told}
-use Rattle.units.specs.Refusals.{first, DAMAGED}
-use Rattle.units.specs.Writing.{written}
+use Rattle.units.specs.Refusals.{first}
 use Rattle.units.specs.declared.Bytes.{Bytes}
 use Rattle.units.specs.declared.Filled.{Filled}
 use Rattle.units.specs.declared.Filled.the-variants.{Written}
-use Rattle.units.specs.declared.Filled.the-variants as Filled
 use Rattle.units.specs.declared.Refusal.{Refusal}
 use Rattle.units.specs.declared.Verdict.{Verdict}
 use Rattle.units.specs.declared.Verdict.the-variants.{Allowed, Refused}
 use Rattle.units.proofs.Filling.{filling-refused, filling-refused-keeps}
-use Rattle.units.proofs.Refusing.{Quiet, Lowest, allowed-when, lowest-given, allowed-not-refused}
+use Rattle.units.proofs.Refusing.{Quiet, Lowest, allowed-when, lowest-given}
 use Rattle.units.proofs.Writing.{written-whole}
 use Rattle.map.specs.Buckets.{pageAt}
 use Rattle.map.specs.Files.{pages}
-use Rattle.map.specs.Reading.{headerOf, reading, entryAt}
+use Rattle.map.specs.Reading.{headerOf}
 use Rattle.map.specs.declared.Header.{Header}
-use Rattle.map.specs.declared.Reading.the-variants.{Holds}
 use Rattle.map.proofs.Contents.{Sized}
 use Rattle.map.proofs.Holding.{holds-sized}
 use Rattle.backup.proofs.Bounds.{some-page, page-starts}
 use Rattle.backup.proofs.Opened.{Usable, quiet-usable}
 use Rattle.backup.proofs.Pages.{page-length}
-use Rattle.load.specs.Loads.{damaged, pageTests, loadTests, asking, partUnless, loadedPage, lowestDamaged, bucketTests, loadBucketTests, loading}
-use Rattle.load.proofs.load_page.Reads as load-page
+use Rattle.load.specs.Loads.{pageTests, loadTests, asking, partUnless, loadedPage, bucketTests, loadBucketTests, loading}
 use Rattle.load.proofs.ask_page.Reads as ask-page
 use Rattle.load.proofs.load_bucket.Reads as load-bucket
+use Rattle.load.proofs.load_page.Reads as load-page
 
 -- ---- no second answer; of an empty part the contract says that it is empty, and not where it stands
 

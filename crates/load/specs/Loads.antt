@@ -1,7 +1,7 @@
 -- A page or a bucket comes back from the image only if every page asked for has its entry's signature.
-use Prim.Native.Nat.{ℕ, zero, suc}
 use mathlib.Core.Bool.{Bool, not, cond}
 use mathlib.Core.List.{List, [], _∷_}
+use Prim.Native.Nat.{ℕ, zero, suc}
 use lib.Dec.{leb, ltb}
 use lib.ListN.{length}
 use Rattle.units.specs.Filling.{Outcome, filling}
@@ -12,8 +12,8 @@ use Rattle.map.specs.Buckets.{pageAt}
 use Rattle.map.specs.Files.{pages}
 use Rattle.map.specs.Reading.{headerOf, entryAt}
 use Rattle.map.specs.declared.Header.{Header}
-use Rattle.backup.specs.Openings.{openTests}
 use Rattle.backup.specs.Backups.{agrees}
+use Rattle.backup.specs.Openings.{openTests}
 
 -- page k of the image has another signature than its entry
 abbrev pub damaged : Header → List ℕ → List ℕ → ℕ → Bool

@@ -21,10 +21,9 @@ use Rattle.map.specs.Reading.{headerOf, entryAt}
 use Rattle.map.specs.declared.Header.{Header}
 use Rattle.backup.specs.Backups.{agrees}
 use Rattle.store.specs.Steps.{Stepped, staying, passing, stepUnless, stepTests, stepping}
-use Rattle.store.specs.Stores.{Stored, storedOf, storeUnless, storeTests, storing}
-use Rattle.store.specs.declared.Place.{Place}
-use Rattle.store.specs.declared.Answer.{Answer}
+use Rattle.store.specs.Stores.{storedOf, storeUnless, storeTests, storing}
 use Rattle.store.specs.declared.Answer.the-variants.{Kept, Written, Finished, Refused}
+use Rattle.store.specs.declared.Place.{Place}
 use Rattle.store.specs.declared.Step.{Step}
 use Rattle.store.proofs.Place.step.Reads as step
 use Rattle.store.proofs.store.Reads as store

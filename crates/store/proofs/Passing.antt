@@ -1,27 +1,18 @@
 -- One page of a store in the map's bytes: a kept page changes nothing, and a written one its bytes in the image and its entry in the map.
 -- Assumes nothing.
 use mathlib.Core.Path.{_≡_, sym, ap, ap₂, _∙_}
-use mathlib.Core.Bool.{Bool, true, false, cond, _&&_}
+use mathlib.Core.Bool.{Bool, true, false, cond}
 use mathlib.Core.List.{List}
-use Prim.Native.Nat.{ℕ, suc, _*_, _%_, _≤_, _<_}
-use native.Mathlib.Omega.{arith}
-use lib.Dec.{leb, eqb}
-use lib.ListN.{length}
-use borrow.Author.Tests.{leb-true}
+use Prim.Native.Nat.{ℕ, suc, _*_, _<_}
 use Rattle.units.specs.Writing.{written}
-use Rattle.units.proofs.Pieces.{piece-begins}
 use Rattle.signature.specs.Objects.{Octets}
 use Rattle.map.specs.Buckets.{pageAt}
 use Rattle.map.specs.Files.{pages, file, entryPut}
 use Rattle.map.specs.Making.{madeEntry}
 use Rattle.map.specs.Reading.{reading, entryAt}
 use Rattle.map.specs.declared.Header.{Header}
-use Rattle.map.specs.declared.Entry.{Entry}
 use Rattle.map.specs.declared.Reading.the-variants.{Holds}
-use Rattle.map.proofs.Contents.{Sized}
-use Rattle.map.proofs.Fields.{halves}
 use Rattle.map.proofs.Holding.{holds-sized, holds-held}
-use Rattle.map.proofs.MadeMaps.{pages-most, bucket-most}
 use Rattle.map.proofs.Maps.{made-held}
 use Rattle.map.proofs.Readback.{file-of-reading}
 use Rattle.backup.specs.Backups.{Backup, backupIn, agrees, pageWritten}

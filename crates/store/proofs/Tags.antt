@@ -6,8 +6,8 @@ use mathlib.Core.Logic.{_⊎_, ⊎-elim}
 use mathlib.Core.List.{[], _∷_}
 use Prim.Native.Nat.{ℕ}
 use native.Mathlib.Omega.{arith}
-use types.Run.{OneOf}
 use denote.Enum.Declared.{tagOf}
+use types.Run.{OneOf}
 use Rattle.units.specs.declared.Listed.the-variants.{Numbers}
 use Rattle.store.specs.Stores.{endedBy}
 use Rattle.store.specs.declared.Answer.{Answer}

@@ -1,43 +1,41 @@
 -- A store underway: what image, map and list hold when the first k pages are through, and that a step takes it on by one.
 -- Assumes nothing.
-use mathlib.Core.Path.{_≡_, refl, sym, ap, ap₂, _∙_, subst}
+use mathlib.Core.Path.{_≡_, sym, ap, ap₂, _∙_, subst}
 use mathlib.Core.Logic.{dite, _⊎_, inl, inr, ⊎-elim}
 use mathlib.Core.Bool.{Bool, true, false, not, cond}
 use mathlib.Core.List.{List, [], _∷_, _++_}
-use Prim.Native.Nat.{ℕ, zero, suc, _+_, _≤_, _<_}
+use Prim.Native.Nat.{ℕ, suc, _+_, _≤_, _<_}
 use native.Mathlib.Nat.{zero-add, le-refl}
-use native.Mathlib.Numerals.{add-one}
 use native.Mathlib.Decide.{decLt}
 use native.Mathlib.Omega.{arith}
 use lib.ListN.{length, set, length-append}
-use borrow.Author.Tests.{le-ltb, lt-ltb, eq-eqb, ne-eqb}
+use borrow.Author.Tests.{le-ltb, eq-eqb, ne-eqb}
 use types.Run.{OneOf}
 use Rattle.units.specs.Writing.{written}
+use Rattle.units.specs.declared.Listed.the-variants.{Numbers}
 use Rattle.units.specs.declared.Verdict.{Verdict}
 use Rattle.units.proofs.Naming.{named-none, named-more, named-no-more, named-length}
 use Rattle.units.proofs.Writing.{written-none, written-one, written-append, written-length}
 use Rattle.signature.specs.Objects.{Octets}
-use Rattle.units.specs.declared.Listed.the-variants.{Numbers}
 use Rattle.map.specs.Files.{pages, file}
 use Rattle.map.specs.Reading.{reading, entryAt}
 use Rattle.map.specs.declared.Header.{Header}
-use Rattle.map.specs.declared.Entry.{Entry}
 use Rattle.map.specs.declared.Reading.the-variants.{Holds}
 use Rattle.map.proofs.Contents.{Sized, file-length, file-read, entry-read}
 use Rattle.map.proofs.Holding.{holds-header, holds-sized, holds-held, holds-length}
 use Rattle.map.proofs.Readback.{file-of-reading}
 use Rattle.backup.specs.Backups.{Backup, backupIn, agrees, pageStored, stored, changed}
 use Rattle.backup.proofs.Alike.{SameEntries, same-agrees, same-file, alike-image, alike-entries}
+use Rattle.backup.proofs.Bounds.{some-page}
 use Rattle.backup.proofs.Entered.{AllHeld}
 use Rattle.backup.proofs.Opened.{Usable, holds-usable}
 use Rattle.backup.proofs.Storing.{none-stored, next-stored, ahead-entry, all-length, all-held}
 use Rattle.store.specs.Steps.{Stepped, steppedOf, passedTo, passing, staying, placeTests, stepUnless, openStep, stepping}
-use Rattle.store.specs.declared.Place.{Place}
 use Rattle.store.specs.Stores.{storedOf, storedTo, openStore}
 use Rattle.store.specs.declared.Answer.{Answer}
-use Rattle.store.specs.declared.Answer.the-variants.{Kept, Written, Finished, Refused}
+use Rattle.store.specs.declared.Answer.the-variants.{Kept, Written, Finished}
+use Rattle.store.specs.declared.Place.{Place}
 use Rattle.store.specs.declared.Step.{Step}
-use Rattle.backup.proofs.Bounds.{some-page}
 use Rattle.store.proofs.Tags.{tag, told-kept, told-written, told-neither, kept-not-finished, written-not-finished}
 
 -- the first k pages are through

@@ -1,7 +1,7 @@
 -- One step of a store: what it answers, the place it hands back, and what image and map hold then.
-use Prim.Native.Nat.{ℕ, suc}
 use mathlib.Core.Bool.{cond}
 use mathlib.Core.List.{List, [], _∷_}
+use Prim.Native.Nat.{ℕ, suc}
 use lib.Dec.{ltb, eqb}
 use lib.ListN.{length}
 use Rattle.units.specs.Refusals.{Test, gives, first, PAGENO}
@@ -10,11 +10,11 @@ use Rattle.units.specs.declared.Verdict.the-variants as Verdict
 use Rattle.map.specs.Files.{pages, file}
 use Rattle.map.specs.Reading.{headerOf, entryAt}
 use Rattle.map.specs.declared.Header.{Header}
-use Rattle.backup.specs.Openings.{openTests}
 use Rattle.backup.specs.Backups.{Backup, backupIn, agrees, pageStored}
-use Rattle.store.specs.declared.Place.{Place}
+use Rattle.backup.specs.Openings.{openTests}
 use Rattle.store.specs.declared.Answer.{Answer}
 use Rattle.store.specs.declared.Answer.the-variants.{Kept, Written, Finished, Refused}
+use Rattle.store.specs.declared.Place.{Place}
 use Rattle.store.specs.declared.Step.{Step}
 
 pub record Stepped : Type 0 where

@@ -1,6 +1,6 @@
 -- A whole store: how many pages it writes, and what image, map and list hold then.
-use Prim.Native.Nat.{ℕ}
 use mathlib.Core.List.{List, [], _∷_}
+use Prim.Native.Nat.{ℕ}
 use lib.ListN.{length}
 use Rattle.units.specs.Filling.{room}
 use Rattle.units.specs.Refusals.{Test, first}
@@ -12,8 +12,8 @@ use Rattle.units.specs.declared.Verdict.the-variants as Verdict
 use Rattle.map.specs.Files.{pages, file}
 use Rattle.map.specs.Reading.{headerOf, entryAt}
 use Rattle.map.specs.declared.Header.{Header}
-use Rattle.backup.specs.Openings.{openTests}
 use Rattle.backup.specs.Backups.{Backup, backupIn, stored, changed}
+use Rattle.backup.specs.Openings.{openTests}
 use Rattle.store.specs.declared.Answer.{Answer}
 use Rattle.store.specs.declared.Answer.the-variants as Answer
 

@@ -10,7 +10,7 @@ use native.Mathlib.Decide.{ℕ-discrete}
 use native.Mathlib.Omega.{arith}
 use lib.Dec.{eqb}
 use lib.ListN.{length}
-use borrow.Author.Tests.{eqb-true, eqb-false, ltb-false}
+use borrow.Author.Tests.{eqb-false, ltb-false}
 use Rattle.units.specs.Refusals.{first}
 use Rattle.units.specs.declared.Verdict.{Verdict}
 use Rattle.units.specs.declared.Verdict.the-variants.{Allowed, Refused}
@@ -18,28 +18,26 @@ use Rattle.units.proofs.Refusing.{Quiet, allowed-when}
 use Rattle.signature.specs.Kinds.{wide}
 use Rattle.signature.specs.Objects.{Octets}
 use Rattle.signature.specs.Operations.{own}
-use Rattle.signature.specs.declared.Signature.{Signature}
 use Rattle.map.specs.Buckets.{pageAt}
 use Rattle.map.specs.Files.{pages, file}
 use Rattle.map.specs.Making.{madeEntry, madeHeader, made}
-use Rattle.map.specs.Reading.{headerOf, reading, entryAt}
-use Rattle.map.specs.declared.Header.{Header}
+use Rattle.map.specs.Reading.{headerOf, entryAt}
 use Rattle.map.specs.declared.Entry.{Entry}
-use Rattle.map.specs.declared.Reading.the-variants.{Holds}
+use Rattle.map.specs.declared.Header.{Header}
 use Rattle.map.proofs.Contents.{Sized, file-read, entry-read}
 use Rattle.map.proofs.Holding.{holds-header, holds-sized, holds-held}
-use Rattle.backup.specs.Backups.{Backup, backupIn, agrees, pageStored, stored}
 use Rattle.map.proofs.Maps.{made-reads, made-entry-reads}
 use Rattle.map.proofs.Readback.{file-of-reading}
+use Rattle.backup.specs.Backups.{Backup, backupIn, agrees, pageStored, stored}
 use Rattle.backup.proofs.Alike.{same-file}
+use Rattle.backup.proofs.Bounds.{some-page}
 use Rattle.backup.proofs.Entered.{AllHeld}
 use Rattle.backup.proofs.Opened.{Usable, quiet-usable}
 use Rattle.backup.proofs.Storing.{stored-entry, stored-entry-else, stored-length, stored-page, stored-page-else, page-held, next-stored, none-stored, all-length, all-held}
 use Rattle.store.specs.Steps.{staying, passing, stepUnless, placeTests, stepTests, stepping}
 use Rattle.store.specs.Stores.{listTests, storeUnless, storeTests, storing}
-use Rattle.store.specs.declared.Place.{Place}
 use Rattle.store.specs.declared.Answer.the-variants.{Finished}
-use Rattle.backup.proofs.Bounds.{some-page}
+use Rattle.store.specs.declared.Place.{Place}
 use Rattle.stored.specs.Signing.{Signs, Signed}
 
 made-signs : (n page : ℕ) (bucket : List ℕ) (k : ℕ) → madeEntry n page bucket k .signature ≡ own wide n (pageAt page bucket k)

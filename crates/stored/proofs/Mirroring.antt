@@ -12,24 +12,20 @@ use lib.ListN.{length}
 use borrow.Author.Tests.{not-true}
 use Rattle.units.specs.Counts.{pagesIn}
 use Rattle.units.specs.Refusals.{first}
-use Rattle.units.specs.Writing.{written}
-use Rattle.units.specs.declared.Listed.{Listed}
 use Rattle.units.specs.declared.Listed.the-variants.{Numbers}
 use Rattle.units.specs.declared.Verdict.{Verdict}
 use Rattle.units.specs.declared.Verdict.the-variants.{Allowed}
 use Rattle.units.proofs.Naming.{named-exactly, named-upward}
-use Rattle.signature.specs.Differences.{differing}
 use Rattle.signature.specs.Kinds.{wide}
 use Rattle.signature.specs.Objects.{Octets, symbols}
 use Rattle.signature.specs.Operations.{own}
-use Rattle.signature.specs.declared.Signature.{Signature}
 use Rattle.signature.proofs.EveryKind.{wide-sound, own-tells}
 use Rattle.map.specs.Buckets.{pageAt}
 use Rattle.map.specs.Files.{pages, file}
-use Rattle.map.specs.Making.{madeEntry, madeHeader, made}
-use Rattle.map.specs.Reading.{headerOf, reading, entryAt}
-use Rattle.map.specs.declared.Header.{Header}
+use Rattle.map.specs.Making.{madeEntry, made}
+use Rattle.map.specs.Reading.{reading, entryAt}
 use Rattle.map.specs.declared.Entry.{Entry}
+use Rattle.map.specs.declared.Header.{Header}
 use Rattle.map.specs.declared.Reading.the-variants.{Holds}
 use Rattle.map.proofs.Contents.{Sized, entry-read}
 use Rattle.map.proofs.Holding.{holds-header, holds-sized, holds-held}
@@ -37,6 +33,7 @@ use Rattle.map.proofs.MadeMaps.{n-most, page-most}
 use Rattle.map.proofs.Octets.{page-octets}
 use Rattle.backup.specs.Backups.{Backup, backupIn, agrees, stored, changed}
 use Rattle.backup.proofs.Alike.{same-file}
+use Rattle.backup.proofs.Bounds.{some-page}
 use Rattle.backup.proofs.Entered.{AllHeld}
 use Rattle.backup.proofs.Opened.{Usable, quiet-usable}
 use Rattle.backup.proofs.Pages.{page-length, pages-whole}
@@ -44,9 +41,8 @@ use Rattle.backup.proofs.Sameness.{agrees-is, is-agrees}
 use Rattle.backup.proofs.Storing.{pageAfter, entryAfter, passed-entry, passed-page, all-length, all-held}
 use Rattle.store.specs.Stores.{Stored, storedTo, listTests, storeUnless, storeTests, storing}
 use Rattle.store.proofs.Answers.{store-allowed}
-use Rattle.backup.proofs.Bounds.{some-page}
-use Rattle.stored.specs.Signing.{Signs, Signed}
 use Rattle.stored.specs.Mirrors.{FewDiffer, Mirrored}
+use Rattle.stored.specs.Signing.{Signs, Signed}
 
 -- what a store that was allowed leaves
 module _ (h : Header) (table image map list : List ℕ) (holds : reading map ≡ Holds h) (count : ℕ) (answer : storing table image map list .answer ≡ Numbers count) where

@@ -13,17 +13,16 @@ use Rattle.units.specs.Writing.{written}
 use Rattle.units.specs.declared.Listed.the-variants.{Numbers}
 use Rattle.units.proofs.Naming.{named-none}
 use Rattle.signature.specs.Objects.{Octets}
-use Rattle.map.specs.Files.{pages, file}
+use Rattle.map.specs.Files.{pages}
 use Rattle.map.specs.Reading.{reading, entryAt}
 use Rattle.map.specs.declared.Header.{Header}
 use Rattle.map.specs.declared.Reading.the-variants.{Holds}
-use Rattle.backup.specs.Backups.{Backup, backupIn, agrees, stored, changed}
+use Rattle.backup.specs.Backups.{agrees, changed}
 use Rattle.backup.proofs.Opened.{Usable}
-use Rattle.store.specs.Steps.{Stepped, openStep, stepping}
+use Rattle.store.specs.Steps.{openStep, stepping}
 use Rattle.store.specs.Stores.{Stored, storing}
-use Rattle.store.specs.declared.Place.{Place}
-use Rattle.store.specs.declared.Answer.{Answer}
 use Rattle.store.specs.declared.Answer.the-variants.{Kept, Written, Finished}
+use Rattle.store.specs.declared.Place.{Place}
 use Rattle.store.specs.declared.Step.{Step}
 use Rattle.store.proofs.Underway.{Ready, Through, Passed, Done, taken, none-through, through-reads, through-length, step-opens}
 use Rattle.stored.specs.Walks.{Walk, writtenBy, walked, walkTo, outset}

@@ -8,8 +8,8 @@ use Rattle.signature.specs.Operations.{own}
 use Rattle.map.specs.Buckets.{pageAt}
 use Rattle.map.specs.Files.{pages}
 use Rattle.map.specs.Reading.{reading, entryAt}
-use Rattle.map.specs.declared.Header.{Header}
 use Rattle.map.specs.declared.Entry.{Entry}
+use Rattle.map.specs.declared.Header.{Header}
 use Rattle.map.specs.declared.Reading.the-variants.{Holds}
 
 -- each page's entry has the page's own signature

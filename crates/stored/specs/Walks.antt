@@ -1,10 +1,10 @@
 -- A store taken a page at a time: the place that a step hands back is handed in to the next.
-use Prim.Native.Nat.{ℕ, zero, suc}
 use mathlib.Core.List.{List, [], _∷_, _++_}
+use Prim.Native.Nat.{ℕ, zero, suc}
 use Rattle.store.specs.Steps.{Stepped, stepping}
-use Rattle.store.specs.declared.Place.{Place}
 use Rattle.store.specs.declared.Answer.{Answer}
 use Rattle.store.specs.declared.Answer.the-variants.{Kept, Written, Finished, Refused}
+use Rattle.store.specs.declared.Place.{Place}
 
 pub record Walk : Type 0 where
   pub place : Place

@@ -1,7 +1,7 @@
 -- What a buffer holds after a part of it was written over.
-use Prim.Native.Nat.{ℕ, _+_}
 use mathlib.Core.Bool.{cond}
 use mathlib.Core.List.{List, _++_}
+use Prim.Native.Nat.{ℕ, _+_}
 use lib.Dec.{leb}
 use lib.ListN.{length, take, drop}
 

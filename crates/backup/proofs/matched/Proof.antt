@@ -1,8 +1,6 @@
 use borrow.Author.Tests.{ne-eqb, eq-eqb}
 use Rattle.backup.proofs.matched.Statement.{statement}
 use Rattle.backup.proofs.matched.Tie as tie
-use Rattle.backup.proofs.matched.Reads as reads
-use Rattle.backup.proofs.matched.Lts as lts
 
 returns : tie.Need-returns
 returns c = simp (ne-eqb _ _ (c .if1 .taken))

@@ -1,12 +1,8 @@
-use Rattle.backup.proofs.Opened.{open-breaks, open-holds}
 use mathlib.Core.Path.{sym, _∙_}
 use borrow.Author.Needs.{needs}
+use Rattle.backup.proofs.Opened.{open-breaks, open-holds}
 use Rattle.backup.proofs.open.Statement.{statement}
 use Rattle.backup.proofs.open.Tie as tie
-use Rattle.backup.proofs.open.Reads as reads
-use Rattle.backup.proofs.open.Lts as lts
-use Rattle.backup.proofs.matched.Reads as matched-reads
-use Rattle.map.proofs.read.Reads as read-reads
 
 read-requires : tie.Need-read-requires
 read-requires c κs = search needs
@@ -21,10 +17,16 @@ matched-requires : tie.Need-matched-requires
 matched-requires c κs = search needs
 
 returns : tie.Need-returns
-returns c = sym (open-breaks _ _ (c .before .before .before .before .before .args .map .now) (c .before .reading .given .0 .0) (sym (c .before .before .before .read .ensures) ∙ c .before .reading .given .1))
+returns c =
+    let args : _ = c .before .before .before .before .before .args in
+    let read : _ = c .before .before .before .read in
+    sym (open-breaks _ _ (args .map .now) (c .before .reading .given .0 .0) (sym (read .ensures) ∙ c .before .reading .given .1))
 
 returns-2 : tie.Need-returns-2
-returns-2 c = c .matched .ensures ∙ sym (open-holds _ _ (c .before .before .before .before .before .before .args .map .now) (c .before .before .reading2 .given .0 .0) (sym (c .before .before .before .before .read .ensures) ∙ c .before .before .reading2 .given .1))
+returns-2 c =
+    let args : _ = c .before .before .before .before .before .before .args in
+    let read : _ = c .before .before .before .before .read in
+    c .matched .ensures ∙ sym (open-holds _ _ (args .map .now) (c .before .before .reading2 .given .0 .0) (sym (read .ensures) ∙ c .before .before .reading2 .given .1))
 
 pub open-spec : {M : Type 1} → statement M
 open-spec =

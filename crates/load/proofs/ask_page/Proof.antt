@@ -1,11 +1,8 @@
-use Rattle.backup.proofs.Opened.{opened-open, opened-refused}
-use mathlib.Core.Path.{_≡_, sym, ap, ap₂, _∙_}
+use mathlib.Core.Path.{sym, _∙_}
 use borrow.Author.Needs.{needs}
+use Rattle.backup.proofs.Opened.{opened-open, opened-refused}
 use Rattle.load.proofs.ask_page.Statement.{statement}
 use Rattle.load.proofs.ask_page.Tie as tie
-use Rattle.load.proofs.ask_page.Reads as reads
-use Rattle.load.proofs.ask_page.Lts as lts
-use Rattle.load.proofs.open_page.Reads as open-page-reads
 
 open-page-requires : tie.Need-open-page-requires
 open-page-requires c κs = search needs

@@ -1,17 +1,13 @@
-use Rattle.load.specs.Loads.{loading, bucketTests}
-use Rattle.backup.proofs.Opened.{Usable, open-usable, open-refused}
-use Rattle.map.specs.Reading.{headerOf}
-use Rattle.units.specs.declared.Verdict.{Verdict}
-use Rattle.units.specs.Filling.{outcome}
+use mathlib.Core.Path.{sym, ap, _∙_}
 use lib.ListN.{length}
-use mathlib.Core.Path.{_≡_, sym, ap, _∙_}
 use borrow.Author.Needs.{needs}
+use Rattle.units.specs.Filling.{outcome}
+use Rattle.units.specs.declared.Verdict.{Verdict}
+use Rattle.map.specs.Reading.{headerOf}
+use Rattle.backup.proofs.Opened.{Usable, open-usable, open-refused}
+use Rattle.load.specs.Loads.{loading, bucketTests}
 use Rattle.load.proofs.load_bucket.Statement.{statement}
 use Rattle.load.proofs.load_bucket.Tie as tie
-use Rattle.load.proofs.load_bucket.Reads as reads
-use Rattle.load.proofs.load_bucket.Lts as lts
-use Rattle.backup.proofs.open.Reads as open-reads
-use Rattle.load.proofs.move_bucket.Reads as move-bucket-reads
 
 open-requires : tie.Need-open-requires
 open-requires c κs = search needs
@@ -24,15 +20,17 @@ enum-known-opening-2 c = search needs
 
 move-bucket-requires : tie.Need-move-bucket-requires
 move-bucket-requires c κs =
-    let u : Usable _ _ _ (c .before .before .opening2 .given .0 .0) = open-usable _ _ _ _ (sym (c .before .before .before .before .«open» .ensures) ∙ c .before .before .opening2 .given .1) in
+    let opens : _ = c .before .before .before .before .«open» in
+    let u : Usable _ _ _ (c .before .before .opening2 .given .0 .0) = open-usable _ _ _ _ (sym (opens .ensures) ∙ c .before .before .opening2 .given .1) in
     u .other-fits ∙ sym (u .one-fits)
 
 returns : tie.Need-returns
 unfolding loading
 returns c =
+    let opens : _ = c .before .before .before .«open» in
     let args : _ = c .before .before .before .before .before .before .before .args in
     sym (ap (λ (v : Verdict). outcome v (length (args .image .now)) (args .image .now) (args .table .now))
-    (open-refused _ _ _ (c .before .opening .given .0 .0) (sym (c .before .before .before .«open» .ensures) ∙ c .before .opening .given .1) (bucketTests (headerOf (args .map .now)) (args .image .now) (args .map .now))))
+    (open-refused _ _ _ (c .before .opening .given .0 .0) (sym (opens .ensures) ∙ c .before .opening .given .1) (bucketTests (headerOf (args .map .now)) (args .image .now) (args .map .now))))
 
 same-length : tie.Need-same-length
 same-length c = search needs
@@ -40,8 +38,10 @@ same-length c = search needs
 returns-2 : tie.Need-returns-2
 unfolding loading
 returns-2 c =
+    let opens : _ = c .before .before .before .before .before .before .before .«open» in
+    let opening2 : _ = c .before .before .before .before .before .opening2 in
     let args : _ = c .before .before .before .before .before .before .before .before .before .before .before .args in
-    let u : Usable _ _ _ (c .before .before .before .before .before .opening2 .given .0 .0) = open-usable _ _ _ _ (sym (c .before .before .before .before .before .before .before .«open» .ensures) ∙ c .before .before .before .before .before .opening2 .given .1) in
+    let u : Usable _ _ _ (opening2 .given .0 .0) = open-usable _ _ _ _ (sym (opens .ensures) ∙ opening2 .given .1) in
     c .before .before .move-bucket .ensures
     ∙ ap (λ (v : Verdict). outcome v (length (args .image .now)) (args .image .now) (args .table .now)) (sym (u .rest (λ g. bucketTests g (args .image .now) (args .map .now))))
 

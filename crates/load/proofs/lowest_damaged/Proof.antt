@@ -1,19 +1,15 @@
-use Rattle.load.proofs.First.{first-none, first-here, first-later}
-use Rattle.load.specs.Loads.{firstNamed, damaged, lowestDamaged}
-use Rattle.map.specs.Files.{pages}
-use borrow.Author.Needs.{needs}
+use mathlib.Core.Bool.{true, false, not}
+use mathlib.Core.Path.{_≡_, sym, ap, _∙_}
+use Prim.Native.Nat.{ℕ, suc, _+_, _-_}
 use native.Mathlib.Omega.{arith}
 use native.Mathlib.Numerals.{add-one}
 use native.Mathlib.Nat.{zero-add}
-use Prim.Native.Nat.{ℕ, suc, _+_, _-_, _≤_, _<_}
-use mathlib.Core.Bool.{true, false, not}
-use mathlib.Core.Path.{_≡_, refl, sym, ap, ap₂, _∙_}
+use borrow.Author.Needs.{needs}
+use Rattle.map.specs.Files.{pages}
+use Rattle.load.specs.Loads.{firstNamed, damaged, lowestDamaged}
+use Rattle.load.proofs.First.{first-none, first-here, first-later}
 use Rattle.load.proofs.lowest_damaged.Statement.{statement}
 use Rattle.load.proofs.lowest_damaged.Tie as tie
-use Rattle.load.proofs.lowest_damaged.Reads as reads
-use Rattle.load.proofs.lowest_damaged.Lts as lts
-use Rattle.load.proofs.whole.Reads as whole-reads
-use Rattle.map.proofs.pages.Reads as pages-reads
 
 abbrev Inv-loop : tie.InvT-loop
 Inv-loop h image map left₀ k₀ left k = (firstNamed (damaged h image map) left k ≡ lowestDamaged h image map) × (k + left ≡ pages h)
@@ -25,7 +21,9 @@ pages-requires : tie.Need-pages-requires Inv-loop μ-loop
 pages-requires c κs = search needs
 
 loop-holds : tie.Need-loop-holds Inv-loop μ-loop
-loop-holds c = (ap (λ (m : ℕ). firstNamed (damaged (c .before .before .before .args .h) (c .before .before .before .args .image .now) (c .before .before .before .args .map .now)) m 0) (c .pages .ensures), zero-add _ ∙ c .pages .ensures)
+loop-holds c =
+    let args : _ = c .before .before .before .args in
+    (ap (λ (m : ℕ). firstNamed (damaged (args .h) (args .image .now) (args .map .now)) m 0) (c .pages .ensures), zero-add _ ∙ c .pages .ensures)
 
 whole-requires : tie.Need-whole-requires Inv-loop μ-loop
 whole-requires c κs = search needs

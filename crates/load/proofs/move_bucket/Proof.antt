@@ -1,24 +1,17 @@
-use Rattle.load.specs.Loads.{lowestDamaged}
-use Rattle.map.specs.Files.{pages}
-use Rattle.units.proofs.Writing.{part-put}
-use Rattle.units.specs.declared.Filled.the-variants.{Written, Refused}
-use Rattle.units.specs.declared.Filled.{Filled}
-use Rattle.units.specs.Filling.{outcomeOf}
-use borrow.Author.Tests.{lt-ltb, le-ltb}
-use lib.ListN.{length}
-use native.Mathlib.Omega.{arith}
+use mathlib.Core.Path.{ap, _∙_}
 use Prim.Native.Nat.{ℕ, _+_, _≤_, _<_}
-use mathlib.Core.List.{List}
-use mathlib.Core.Path.{_≡_, sym, ap, _∙_}
+use native.Mathlib.Omega.{arith}
+use lib.ListN.{length}
+use borrow.Author.Tests.{lt-ltb, le-ltb}
 use borrow.Author.Needs.{needs}
+use Rattle.units.specs.Filling.{outcomeOf}
+use Rattle.units.specs.declared.Filled.{Filled}
+use Rattle.units.specs.declared.Filled.the-variants.{Written, Refused}
+use Rattle.units.proofs.Writing.{part-put}
+use Rattle.map.specs.Files.{pages}
+use Rattle.load.specs.Loads.{lowestDamaged}
 use Rattle.load.proofs.move_bucket.Statement.{statement}
 use Rattle.load.proofs.move_bucket.Tie as tie
-use Rattle.load.proofs.move_bucket.Reads as reads
-use Rattle.load.proofs.move_bucket.Lts as lts
-use Rattle.load.proofs.lowest_damaged.Reads as lowest-damaged-reads
-use Rattle.map.proofs.pages.Reads as pages-reads
-use Rattle.units.proofs.put_part.Reads as put-part-reads
-use Rattle.units.proofs.refused.Reads as refused-reads
 
 lowest-damaged-requires : tie.Need-lowest-damaged-requires
 lowest-damaged-requires c κs = search needs
@@ -31,9 +24,10 @@ refused-requires c κs = search needs
 
 returns : tie.Need-returns
 returns c =
+    let lowest-damaged : _ = c .before .before .before .lowest-damaged in
     let args : _ = c .before .before .before .before .before .before .before .args in
-    let below : lowestDamaged (args .h) (args .image .now) (args .map .now) < pages (args .h) = omega (arith, c .before .before .before .lowest-damaged .ensures, c .before .before .pages .ensures) in
-    simp (lt-ltb _ _ below) (ap (λ (a : Filled). outcomeOf a (args .table .now)) (c .refused .ensures ∙ ap (λ (k : ℕ). Refused (record { number = 10; value = k })) (c .before .before .before .lowest-damaged .ensures)))
+    let below : lowestDamaged (args .h) (args .image .now) (args .map .now) < pages (args .h) = omega (arith, lowest-damaged .ensures, c .before .before .pages .ensures) in
+    simp (lt-ltb _ _ below) (ap (λ (a : Filled). outcomeOf a (args .table .now)) (c .refused .ensures ∙ ap (λ (k : ℕ). Refused (record { number = 10; value = k })) (lowest-damaged .ensures)))
 
 put-part-requires : tie.Need-put-part-requires
 put-part-requires c κs = search needs
@@ -43,9 +37,13 @@ same-length c = search needs
 
 returns-2 : tie.Need-returns-2
 returns-2 c =
+    let pre : _ = c .before .before .before .before .before .before .before .before .before .before .pre in
+    let lowest-damaged : _ = c .before .before .before .before .before .before .lowest-damaged in
+    let counted : _ = c .before .before .before .before .before .pages in
+    let if1 : _ = c .before .before .before .before .if1 in
     let args : _ = c .before .before .before .before .before .before .before .before .before .before .args in
-    let none : pages (args .h) ≤ lowestDamaged (args .h) (args .image .now) (args .map .now) = omega (arith, c .before .before .before .before .before .before .lowest-damaged .ensures, c .before .before .before .before .before .pages .ensures, c .before .before .before .before .if1 .left) in
-    let fits : 0 + length (args .image .now) ≤ length (args .table .now) = omega (arith, c .before .before .before .before .before .before .before .before .before .before .pre) in
+    let none : pages (args .h) ≤ lowestDamaged (args .h) (args .image .now) (args .map .now) = omega (arith, lowest-damaged .ensures, counted .ensures, if1 .left) in
+    let fits : 0 + length (args .image .now) ≤ length (args .table .now) = omega (arith, pre) in
     simp (le-ltb _ _ none) (ap (outcomeOf (Written (record { count = length (args .image .now) }))) (c .before .before .put-part .ensures ∙ part-put (args .image .now) (args .table .now) 0 fits))
 
 pub move-bucket-spec : {M : Type 1} → statement M

@@ -1,28 +1,23 @@
-use Rattle.load.specs.Loads.{asking, pageTests}
-use Rattle.backup.proofs.Opened.{Usable, open-usable, open-refused}
-use Rattle.backup.specs.Openings.{opened}
-use Rattle.backup.specs.Backups.{agrees}
-use Rattle.map.proofs.Holding.{holds-header}
-use Rattle.map.specs.declared.Header.{Header}
-use Rattle.map.specs.Reading.{headerOf, entryAt}
-use Rattle.map.specs.Files.{pages}
-use Rattle.units.specs.declared.Verdict.the-variants as Verdict
-use Rattle.units.specs.declared.Verdict.the-variants.{Allowed}
-use Rattle.units.specs.declared.Verdict.{Verdict}
-use Rattle.units.specs.Refusals.{first}
-use borrow.Author.Tests.{le-leb, lt-leb, not-true, not-false}
-use native.Mathlib.Omega.{arith}
-use Prim.Native.Nat.{ℕ, _≤_, _<_}
-use mathlib.Core.Bool.{true, false, not}
+use mathlib.Core.Bool.{true, false}
 use mathlib.Core.Path.{_≡_, sym, ap, ap₂, _∙_}
+use Prim.Native.Nat.{_≤_, _<_}
+use native.Mathlib.Omega.{arith}
+use borrow.Author.Tests.{le-leb, lt-leb, not-true, not-false}
 use borrow.Author.Needs.{needs}
+use Rattle.units.specs.Refusals.{first}
+use Rattle.units.specs.declared.Verdict.{Verdict}
+use Rattle.units.specs.declared.Verdict.the-variants.{Allowed}
+use Rattle.units.specs.declared.Verdict.the-variants as Verdict
+use Rattle.map.specs.Files.{pages}
+use Rattle.map.specs.Reading.{headerOf, entryAt}
+use Rattle.map.specs.declared.Header.{Header}
+use Rattle.map.proofs.Holding.{holds-header}
+use Rattle.backup.specs.Backups.{agrees}
+use Rattle.backup.specs.Openings.{opened}
+use Rattle.backup.proofs.Opened.{Usable, open-usable, open-refused}
+use Rattle.load.specs.Loads.{asking, pageTests}
 use Rattle.load.proofs.open_page.Statement.{statement}
 use Rattle.load.proofs.open_page.Tie as tie
-use Rattle.load.proofs.open_page.Reads as reads
-use Rattle.load.proofs.open_page.Lts as lts
-use Rattle.backup.proofs.open.Reads as open-reads
-use Rattle.load.proofs.whole.Reads as whole-reads
-use Rattle.map.proofs.pages.Reads as pages-reads
 
 open-requires : tie.Need-open-requires
 open-requires c κs = search needs
@@ -47,9 +42,11 @@ pages-requires c κs = search needs
 returns-2 : tie.Need-returns-2
 unfolding asking
 returns-2 c =
+    let opens : _ = c .before .before .before .before .before .«open» in
+    let opening : _ = c .before .before .before .opening in
     let args : _ = c .before .before .before .before .before .before .before .before .args in
-    let h : Header = c .before .before .before .opening .given .0 .0 in
-    let u : Usable _ _ _ h = open-usable _ _ _ _ (sym (c .before .before .before .before .before .«open» .ensures) ∙ c .before .before .before .opening .given .1) in
+    let h : Header = opening .given .0 .0 in
+    let u : Usable _ _ _ h = open-usable _ _ _ _ (sym (opens .ensures) ∙ opening .given .1) in
     let past : pages h ≤ args .k = omega (arith, c .before .pages .ensures) in
     let so : first (pageTests h (args .image .now) (args .map .now) (args .k)) ≡ Verdict.Refused (record { number = 9; value = 0 }) = simp (le-leb _ _ past) in
     sym (ap (λ (v : Verdict). opened v (headerOf (args .map .now))) (u .rest (λ g. pageTests g (args .image .now) (args .map .now) (args .k)) ∙ so))
@@ -60,10 +57,13 @@ whole-requires c κs = search needs
 returns-3 : tie.Need-returns-3
 unfolding asking
 returns-3 c =
+    let opens : _ = c .before .before .before .before .before .before .before .«open» in
+    let opening : _ = c .before .before .before .before .before .opening in
+    let counted : _ = c .before .before .before .pages in
     let args : _ = c .before .before .before .before .before .before .before .before .before .before .args in
-    let h : Header = c .before .before .before .before .before .opening .given .0 .0 in
-    let u : Usable _ _ _ h = open-usable _ _ _ _ (sym (c .before .before .before .before .before .before .before .«open» .ensures) ∙ c .before .before .before .before .before .opening .given .1) in
-    let inside : args .k < pages h = omega (arith, c .before .before .before .pages .ensures, c .before .before .if1 .left) in
+    let h : Header = opening .given .0 .0 in
+    let u : Usable _ _ _ h = open-usable _ _ _ _ (sym (opens .ensures) ∙ opening .given .1) in
+    let inside : args .k < pages h = omega (arith, counted .ensures, c .before .before .if1 .left) in
     let bad : agrees h (entryAt (h .n) (args .map .now)) (args .image .now) (args .k) ≡ false = sym (c .before .whole .ensures) ∙ not-true _ (c .if2 .taken) in
     let so : first (pageTests h (args .image .now) (args .map .now) (args .k)) ≡ Verdict.Refused (record { number = 10; value = args .k }) = simp (lt-leb _ _ inside, bad) in
     sym (ap (λ (v : Verdict). opened v (headerOf (args .map .now))) (u .rest (λ g. pageTests g (args .image .now) (args .map .now) (args .k)) ∙ so))
@@ -71,10 +71,13 @@ returns-3 c =
 returns-4 : tie.Need-returns-4
 unfolding asking
 returns-4 c =
+    let opens : _ = c .before .before .before .before .before .before .before .«open» in
+    let opening : _ = c .before .before .before .before .before .opening in
+    let counted : _ = c .before .before .before .pages in
     let args : _ = c .before .before .before .before .before .before .before .before .before .before .args in
-    let h : Header = c .before .before .before .before .before .opening .given .0 .0 in
-    let u : Usable _ _ _ h = open-usable _ _ _ _ (sym (c .before .before .before .before .before .before .before .«open» .ensures) ∙ c .before .before .before .before .before .opening .given .1) in
-    let inside : args .k < pages h = omega (arith, c .before .before .before .pages .ensures, c .before .before .if1 .left) in
+    let h : Header = opening .given .0 .0 in
+    let u : Usable _ _ _ h = open-usable _ _ _ _ (sym (opens .ensures) ∙ opening .given .1) in
+    let inside : args .k < pages h = omega (arith, counted .ensures, c .before .before .if1 .left) in
     let good : agrees h (entryAt (h .n) (args .map .now)) (args .image .now) (args .k) ≡ true = sym (c .before .whole .ensures) ∙ not-false _ (c .if2 .left) in
     let so : first (pageTests h (args .image .now) (args .map .now) (args .k)) ≡ Allowed = simp (lt-leb _ _ inside, good) in
     sym (ap₂ opened (u .rest (λ g. pageTests g (args .image .now) (args .map .now) (args .k)) ∙ so) (holds-header _ _ (u .holds)))

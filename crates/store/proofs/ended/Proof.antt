@@ -1,17 +1,10 @@
-use Rattle.store.proofs.Tags.{not-refused, below3}
-use native.Mathlib.Omega.{arith}
-use mathlib.Core.Logic.{⊎-elim}
-use Rattle.store.specs.declared.Answer.{Answer}
-use Rattle.store.specs.Stores.{endedBy}
-use Rattle.units.specs.declared.Listed.the-variants.{Numbers}
-use Rattle.units.specs.declared.Listed.{Listed}
-use Prim.Native.Nat.{ℕ}
-use mathlib.Core.Path.{_≡_, refl, sym, ap, _∙_}
+use mathlib.Core.Path.{sym, ap}
 use borrow.Author.Needs.{needs}
+use Rattle.store.specs.Stores.{endedBy}
+use Rattle.store.specs.declared.Answer.{Answer}
+use Rattle.store.proofs.Tags.{not-refused, below3}
 use Rattle.store.proofs.ended.Statement.{statement}
 use Rattle.store.proofs.ended.Tie as tie
-use Rattle.store.proofs.ended.Reads as reads
-use Rattle.store.proofs.ended.Lts as lts
 
 enum-known-answer : tie.Need-enum-known-answer
 enum-known-answer c = search needs

@@ -1,17 +1,13 @@
-use Rattle.store.specs.Stores.{openStore, storing, storeUnless, listTests}
-use Rattle.backup.proofs.Opened.{Usable, open-usable, open-refused}
-use Rattle.map.proofs.Holding.{holds-header}
-use Rattle.map.specs.declared.Header.{Header}
-use Rattle.map.specs.Reading.{headerOf}
-use Rattle.units.specs.declared.Verdict.{Verdict}
-use mathlib.Core.Path.{_≡_, sym, ap, ap₂, _∙_}
+use mathlib.Core.Path.{sym, ap, ap₂, _∙_}
 use borrow.Author.Needs.{needs}
+use Rattle.units.specs.declared.Verdict.{Verdict}
+use Rattle.map.specs.Reading.{headerOf}
+use Rattle.map.specs.declared.Header.{Header}
+use Rattle.map.proofs.Holding.{holds-header}
+use Rattle.backup.proofs.Opened.{Usable, open-usable, open-refused}
+use Rattle.store.specs.Stores.{openStore, storing, storeUnless, listTests}
 use Rattle.store.proofs.store.Statement.{statement}
 use Rattle.store.proofs.store.Tie as tie
-use Rattle.store.proofs.store.Reads as reads
-use Rattle.store.proofs.store.Lts as lts
-use Rattle.backup.proofs.open.Reads as open-reads
-use Rattle.store.proofs.store_on.Reads as store-on-reads
 
 open-requires : tie.Need-open-requires
 open-requires c κs = search needs
@@ -24,7 +20,9 @@ enum-known-opening-2 c = search needs
 
 store-on-requires : tie.Need-store-on-requires
 store-on-requires c κs =
-    let u : Usable _ _ _ (c .before .before .before .before .opening2 .given .0 .0) = open-usable _ _ _ _ (sym (c .before .before .before .before .before .before .«open» .ensures) ∙ c .before .before .before .before .opening2 .given .1) in
+    let opens : _ = c .before .before .before .before .before .before .«open» in
+    let opening2 : _ = c .before .before .before .before .opening2 in
+    let u : Usable _ _ _ (opening2 .given .0 .0) = open-usable _ _ _ _ (sym (opens .ensures) ∙ opening2 .given .1) in
     (u .holds, u .one-fits, u .other-fits)
 
 same-length : tie.Need-same-length
@@ -33,9 +31,10 @@ same-length c = search needs
 returns : tie.Need-returns
 unfolding storing
 returns c =
+    let opens : _ = c .before .before .before .«open» in
     let args : _ = c .before .before .before .before .before .before .before .before .before .args in
     sym (ap (λ (v : Verdict). storeUnless v (headerOf (args .map .now)) (args .table .now) (args .image .now) (args .map .now) (args .list .now))
-    (open-refused _ _ _ (c .before .opening .given .0 .0) (sym (c .before .before .before .«open» .ensures) ∙ c .before .opening .given .1) (listTests (headerOf (args .map .now)) (args .list .now))))
+    (open-refused _ _ _ (c .before .opening .given .0 .0) (sym (opens .ensures) ∙ c .before .opening .given .1) (listTests (headerOf (args .map .now)) (args .list .now))))
 
 same-length-2 : tie.Need-same-length-2
 same-length-2 c = search needs
@@ -49,9 +48,12 @@ same-length-4 c = search needs
 returns-2 : tie.Need-returns-2
 unfolding storing openStore
 returns-2 c =
+    let opens : _ = c .before .before .before .before .before .before .before .before .before .before .before .before .before .«open» in
+    let opening2 : _ = c .before .before .before .before .before .before .before .before .before .before .before .opening2 in
+    let store-on : _ = c .before .before .before .before .before .before .store-on in
     let args : _ = c .before .before .before .before .before .before .before .before .before .before .before .before .before .before .before .before .before .before .before .args in
-    let u : Usable _ _ _ (c .before .before .before .before .before .before .before .before .before .before .before .opening2 .given .0 .0) = open-usable _ _ _ _ (sym (c .before .before .before .before .before .before .before .before .before .before .before .before .before .«open» .ensures) ∙ c .before .before .before .before .before .before .before .before .before .before .before .opening2 .given .1) in
-    c .before .before .before .before .before .before .store-on .ensures
+    let u : Usable _ _ _ (opening2 .given .0 .0) = open-usable _ _ _ _ (sym (opens .ensures) ∙ opening2 .given .1) in
+    store-on .ensures
     ∙ ap₂ (λ (v : Verdict) (g : Header). storeUnless v g (args .table .now) (args .image .now) (args .map .now) (args .list .now))
     (sym (u .rest (λ g. listTests g (args .list .now)))) (sym (holds-header _ _ (u .holds)))
 

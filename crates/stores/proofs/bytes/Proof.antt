@@ -4,10 +4,6 @@ use lib.ListN.{length}
 use borrow.Author.Needs.{needs}
 use Rattle.stores.proofs.bytes.Statement.{statement}
 use Rattle.stores.proofs.bytes.Tie as tie
-use Rattle.stores.proofs.bytes.Reads as reads
-use Rattle.stores.proofs.bytes.Lts as lts
-use Rattle.io.proofs.print_hex.Reads as print-hex-reads
-use Rattle.stores.proofs.text.Reads as text-reads
 
 abbrev Inv-loop : tie.InvT-loop
 Inv-loop b i₀ t3 i = Unit {0}

@@ -1,13 +1,8 @@
-use lib.Seq.{length-take-le}
 use mathlib.Core.Path.{sym}
+use lib.Seq.{length-take-le}
 use borrow.Author.Needs.{needs}
 use Rattle.stores.proofs.load_bucket.Statement.{statement}
 use Rattle.stores.proofs.load_bucket.Tie as tie
-use Rattle.stores.proofs.load_bucket.Reads as reads
-use Rattle.stores.proofs.load_bucket.Lts as lts
-use Rattle.load.proofs.load_bucket.Reads as load-bucket-reads
-use Rattle.stores.proofs.bytes.Reads as bytes-reads
-use Rattle.stores.proofs.filled.Reads as filled-reads
 
 returns : tie.Need-returns
 returns c = search needs

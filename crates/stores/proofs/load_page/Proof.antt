@@ -1,14 +1,8 @@
-use lib.Seq.{length-take-le}
 use mathlib.Core.Path.{sym}
+use lib.Seq.{length-take-le}
 use borrow.Author.Needs.{needs}
 use Rattle.stores.proofs.load_page.Statement.{statement}
 use Rattle.stores.proofs.load_page.Tie as tie
-use Rattle.stores.proofs.load_page.Reads as reads
-use Rattle.stores.proofs.load_page.Lts as lts
-use Rattle.load.proofs.ask_page.Reads as ask-page-reads
-use Rattle.load.proofs.load_page.Reads as load-page-reads
-use Rattle.stores.proofs.asked.Reads as asked-reads
-use Rattle.stores.proofs.bytes.Reads as bytes-reads
 
 returns : tie.Need-returns
 returns c = search needs

@@ -1,13 +1,8 @@
-use lib.Seq.{length-take-le}
 use mathlib.Core.Path.{sym}
+use lib.Seq.{length-take-le}
 use borrow.Author.Needs.{needs}
 use Rattle.stores.proofs.make.Statement.{statement}
 use Rattle.stores.proofs.make.Tie as tie
-use Rattle.stores.proofs.make.Reads as reads
-use Rattle.stores.proofs.make.Lts as lts
-use Rattle.map.proofs.make.Reads as make-reads
-use Rattle.stores.proofs.bytes.Reads as bytes-reads
-use Rattle.stores.proofs.filled.Reads as filled-reads
 
 returns : tie.Need-returns
 returns c = search needs

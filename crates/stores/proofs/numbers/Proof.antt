@@ -4,9 +4,6 @@ use lib.ListN.{length}
 use borrow.Author.Needs.{needs}
 use Rattle.stores.proofs.numbers.Statement.{statement}
 use Rattle.stores.proofs.numbers.Tie as tie
-use Rattle.stores.proofs.numbers.Reads as reads
-use Rattle.stores.proofs.numbers.Lts as lts
-use Rattle.stores.proofs.passed.Reads as passed-reads
 
 abbrev Inv-loop : tie.InvT-loop
 Inv-loop l i₀ t3 i = Unit {0}

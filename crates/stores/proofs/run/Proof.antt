@@ -1,13 +1,10 @@
-use borrow.Author.Needs.{needs}
-use lib.ListN.{length}
-use native.Mathlib.Omega.{arith}
-use Prim.Native.Nat.{_-_, _≤_}
 use mathlib.Core.Path.{_≡_, refl, _∙_}
+use Prim.Native.Nat.{_-_, _≤_}
+use native.Mathlib.Omega.{arith}
+use lib.ListN.{length}
+use borrow.Author.Needs.{needs}
 use Rattle.stores.proofs.run.Statement.{statement}
 use Rattle.stores.proofs.run.Tie as tie
-use Rattle.stores.proofs.run.Reads as reads
-use Rattle.stores.proofs.run.Lts as lts
-use Rattle.stores.proofs.command.Reads as command-reads
 
 abbrev Inv-loop : tie.InvT-loop
 Inv-loop script table₀ image₀ map₀ list₀ lent₀ at₀ table image map list lent at =
@@ -47,7 +44,10 @@ loop-less : tie.Need-loop-less Inv-loop μ-loop
 loop-less c = omega arith
 
 loop-again : tie.Need-loop-again Inv-loop μ-loop
-loop-again c = (omega arith, c .before .before .before .before .before .before .before .before .command .kept .1 .1 .1 .1 .0 ∙ c .before .before .before .before .before .before .before .before .before .before .before .before .before .before .before .before .before .loop .inv .1, c .before .before .before .before .before .before .before .before .command .kept .1 .1 .1 .1 .1 .0 ∙ c .before .before .before .before .before .before .before .before .before .before .before .before .before .before .before .before .before .loop .inv .2, c .before .before .before .before .before .before .before .before .command .kept .1 .1 .1 .1 .1 .1 .0 ∙ c .before .before .before .before .before .before .before .before .before .before .before .before .before .before .before .before .before .loop .inv .3, c .before .before .before .before .before .before .before .before .command .kept .1 .1 .1 .1 .1 .1 .1 .0 ∙ c .before .before .before .before .before .before .before .before .before .before .before .before .before .before .before .before .before .loop .inv .4)
+loop-again c =
+    let loop : _ = c .before .before .before .before .before .before .before .before .before .before .before .before .before .before .before .before .before .loop in
+    let command : _ = c .before .before .before .before .before .before .before .before .command in
+    (omega arith, command .kept .1 .1 .1 .1 .0 ∙ loop .inv .1, command .kept .1 .1 .1 .1 .1 .0 ∙ loop .inv .2, command .kept .1 .1 .1 .1 .1 .1 .0 ∙ loop .inv .3, command .kept .1 .1 .1 .1 .1 .1 .1 .0 ∙ loop .inv .4)
 
 same-length : tie.Need-same-length Inv-loop μ-loop
 same-length c = c .before .loop .inv .1

@@ -1,14 +1,8 @@
-use lib.Seq.{length-take-le}
 use mathlib.Core.Path.{sym}
+use lib.Seq.{length-take-le}
 use borrow.Author.Needs.{needs}
 use Rattle.stores.proofs.step.Statement.{statement}
 use Rattle.stores.proofs.step.Tie as tie
-use Rattle.stores.proofs.step.Reads as reads
-use Rattle.stores.proofs.step.Lts as lts
-use Rattle.store.proofs.Place.step.Reads as step-reads
-use Rattle.stores.proofs.bytes.Reads as bytes-reads
-use Rattle.stores.proofs.passed.Reads as passed-reads
-use Rattle.stores.proofs.stepped.Reads as stepped-reads
 
 returns : tie.Need-returns
 returns c = search needs

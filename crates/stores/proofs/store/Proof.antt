@@ -1,14 +1,8 @@
-use lib.Seq.{length-take-le}
 use mathlib.Core.Path.{sym}
+use lib.Seq.{length-take-le}
 use borrow.Author.Needs.{needs}
 use Rattle.stores.proofs.store.Statement.{statement}
 use Rattle.stores.proofs.store.Tie as tie
-use Rattle.stores.proofs.store.Reads as reads
-use Rattle.stores.proofs.store.Lts as lts
-use Rattle.store.proofs.store.Reads as store-reads
-use Rattle.stores.proofs.bytes.Reads as bytes-reads
-use Rattle.stores.proofs.listed.Reads as listed-reads
-use Rattle.stores.proofs.numbers.Reads as numbers-reads
 
 returns : tie.Need-returns
 returns c = search needs

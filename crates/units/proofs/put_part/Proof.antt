@@ -1,17 +1,15 @@
-use Rattle.units.proofs.Writing.{written-none, written-cons, part-put, part-not-put}
-use Rattle.units.specs.Writing.{written}
-use lib.Seq.{drop-cons, drop-length}
-use lib.ListN.{length, getD, drop, set, length-set, length-drop}
+use mathlib.Core.List.{List, _∷_}
+use mathlib.Core.Path.{_≡_, refl, sym, ap, _∙_}
+use Prim.Native.Nat.{ℕ, _+_, _-_, _≤_, _<_}
 use native.Mathlib.Omega.{arith}
 use native.Mathlib.Numerals.{add-one}
 use native.Mathlib.Nat.{add-zero}
-use Prim.Native.Nat.{ℕ, _+_, _-_, _≤_, _<_}
-use mathlib.Core.List.{List, _∷_}
-use mathlib.Core.Path.{_≡_, refl, sym, ap, _∙_}
+use lib.Seq.{drop-cons, drop-length}
+use lib.ListN.{length, getD, drop, set, length-set, length-drop}
+use Rattle.units.specs.Writing.{written}
+use Rattle.units.proofs.Writing.{written-none, written-cons, part-put, part-not-put}
 use Rattle.units.proofs.put_part.Statement.{statement}
 use Rattle.units.proofs.put_part.Tie as tie
-use Rattle.units.proofs.put_part.Reads as reads
-use Rattle.units.proofs.put_part.Lts as lts
 
 abbrev Inv-loop : tie.InvT-loop
 Inv-loop part buffer₀ at i₀ buffer i =

@@ -1,19 +1,13 @@
-use mathlib.Core.Path.{ap₂}
-use Rattle.store.specs.Steps.{openStep, stepping, stepUnless, placeTests}
-use Rattle.backup.proofs.Opened.{Usable, open-usable, open-refused}
-use Rattle.map.proofs.Holding.{holds-header}
-use Rattle.map.specs.declared.Header.{Header}
-use Rattle.map.specs.Reading.{headerOf}
-use Rattle.units.specs.declared.Verdict.{Verdict}
-use lib.ListN.{length}
-use mathlib.Core.Path.{_≡_, sym, ap, _∙_}
+use mathlib.Core.Path.{ap₂, sym, ap, _∙_}
 use borrow.Author.Needs.{needs}
+use Rattle.units.specs.declared.Verdict.{Verdict}
+use Rattle.map.specs.Reading.{headerOf}
+use Rattle.map.specs.declared.Header.{Header}
+use Rattle.map.proofs.Holding.{holds-header}
+use Rattle.backup.proofs.Opened.{Usable, open-usable, open-refused}
+use Rattle.store.specs.Steps.{openStep, stepping, stepUnless, placeTests}
 use Rattle.store.proofs.Place.step.Statement.{statement}
 use Rattle.store.proofs.Place.step.Tie as tie
-use Rattle.store.proofs.Place.step.Reads as reads
-use Rattle.store.proofs.Place.step.Lts as lts
-use Rattle.backup.proofs.open.Reads as open-reads
-use Rattle.store.proofs.Place.step_on.Reads as step-on-reads
 
 open-requires : tie.Need-open-requires
 open-requires c κs = search needs
@@ -26,7 +20,9 @@ enum-known-opening-2 c = search needs
 
 step-on-requires : tie.Need-step-on-requires
 step-on-requires c κs =
-    let u : Usable _ _ _ (c .before .before .before .opening2 .given .0 .0) = open-usable _ _ _ _ (sym (c .before .before .before .before .before .«open» .ensures) ∙ c .before .before .before .opening2 .given .1) in
+    let opens : _ = c .before .before .before .before .before .«open» in
+    let opening2 : _ = c .before .before .before .opening2 in
+    let u : Usable _ _ _ (opening2 .given .0 .0) = open-usable _ _ _ _ (sym (opens .ensures) ∙ opening2 .given .1) in
     (u .holds, u .one-fits, u .other-fits)
 
 same-length : tie.Need-same-length
@@ -35,9 +31,10 @@ same-length c = search needs
 returns : tie.Need-returns
 unfolding stepping
 returns c =
+    let opens : _ = c .before .before .before .«open» in
     let args : _ = c .before .before .before .before .before .before .before .before .args in
     sym (ap (λ (v : Verdict). stepUnless v (headerOf (args .map .now)) (args .table .now) (args .image .now) (args .map .now) (args .self))
-    (open-refused _ _ _ (c .before .opening .given .0 .0) (sym (c .before .before .before .«open» .ensures) ∙ c .before .opening .given .1) (placeTests (headerOf (args .map .now)) (args .self .page))))
+    (open-refused _ _ _ (c .before .opening .given .0 .0) (sym (opens .ensures) ∙ c .before .opening .given .1) (placeTests (headerOf (args .map .now)) (args .self .page))))
 
 same-length-2 : tie.Need-same-length-2
 same-length-2 c = search needs
@@ -48,9 +45,12 @@ same-length-3 c = search needs
 returns-2 : tie.Need-returns-2
 unfolding stepping openStep
 returns-2 c =
+    let opens : _ = c .before .before .before .before .before .before .before .before .before .before .«open» in
+    let opening2 : _ = c .before .before .before .before .before .before .before .before .opening2 in
+    let step-on : _ = c .before .before .before .before .step-on in
     let args : _ = c .before .before .before .before .before .before .before .before .before .before .before .before .before .before .before .args in
-    let u : Usable _ _ _ (c .before .before .before .before .before .before .before .before .opening2 .given .0 .0) = open-usable _ _ _ _ (sym (c .before .before .before .before .before .before .before .before .before .before .«open» .ensures) ∙ c .before .before .before .before .before .before .before .before .opening2 .given .1) in
-    c .before .before .before .before .step-on .ensures
+    let u : Usable _ _ _ (opening2 .given .0 .0) = open-usable _ _ _ _ (sym (opens .ensures) ∙ opening2 .given .1) in
+    step-on .ensures
     ∙ ap₂ (λ (v : Verdict) (g : Header). stepUnless v g (args .table .now) (args .image .now) (args .map .now) (args .self))
     (sym (u .rest (λ g. placeTests g (args .self .page)))) (sym (holds-header _ _ (u .holds)))
 

@@ -1,16 +1,12 @@
-use Rattle.store.specs.Steps.{openStep}
-use Rattle.map.specs.Files.{pages}
-use borrow.Author.Tests.{lt-ltb, le-ltb, eq-eqb, ne-eqb}
+use mathlib.Core.Path.{_≡_, sym, _∙_}
+use Prim.Native.Nat.{_≤_, _<_}
 use native.Mathlib.Omega.{arith}
-use Prim.Native.Nat.{ℕ, _≤_, _<_}
-use mathlib.Core.Path.{_≡_, sym, ap, _∙_}
+use borrow.Author.Tests.{lt-ltb, le-ltb, eq-eqb, ne-eqb}
 use borrow.Author.Needs.{needs}
+use Rattle.map.specs.Files.{pages}
+use Rattle.store.specs.Steps.{openStep}
 use Rattle.store.proofs.Place.step_on.Statement.{statement}
 use Rattle.store.proofs.Place.step_on.Tie as tie
-use Rattle.store.proofs.Place.step_on.Reads as reads
-use Rattle.store.proofs.Place.step_on.Lts as lts
-use Rattle.map.proofs.pages.Reads as pages-reads
-use Rattle.store.proofs.pass.Reads as pass-reads
 
 pages-requires : tie.Need-pages-requires
 pages-requires c κs = search needs
@@ -18,20 +14,25 @@ pages-requires c κs = search needs
 returns : tie.Need-returns
 unfolding openStep
 returns c =
-    let above : pages (c .before .before .before .before .before .args .h) < c .before .before .before .before .before .args .self .page = omega (arith, c .before .pages .ensures) in
+    let args : _ = c .before .before .before .before .before .args in
+    let above : pages (args .h) < args .self .page = omega (arith, c .before .pages .ensures) in
     simp (lt-ltb _ _ above)
 
 returns-2 : tie.Need-returns-2
 unfolding openStep
 returns-2 c =
-    let all : c .before .before .before .before .before .before .args .self .page ≡ pages (c .before .before .before .before .before .before .args .h) = c .if2 .taken ∙ c .before .before .pages .ensures in
-    let within : c .before .before .before .before .before .before .args .self .page ≤ pages (c .before .before .before .before .before .before .args .h) = omega arith in
+    let args : _ = c .before .before .before .before .before .before .args in
+    let all : args .self .page ≡ pages (args .h) = c .if2 .taken ∙ c .before .before .pages .ensures in
+    let within : args .self .page ≤ pages (args .h) = omega arith in
     simp (le-ltb _ _ within, eq-eqb _ _ all)
 
 pass-requires : tie.Need-pass-requires
 pass-requires c κs =
-    let inside : c .before .before .before .before .before .before .before .before .args .self .page < pages (c .before .before .before .before .before .before .before .before .args .h) = omega (arith, c .before .before .before .before .pages .ensures, c .before .before .before .if1 .left, c .before .before .if2 .left) in
-    (c .before .before .before .before .before .before .before .before .pre .0, c .before .before .before .before .before .before .before .before .pre .1, c .before .before .before .before .before .before .before .before .pre .2, inside)
+    let args : _ = c .before .before .before .before .before .before .before .before .args in
+    let pre : _ = c .before .before .before .before .before .before .before .before .pre in
+    let counted : _ = c .before .before .before .before .pages in
+    let inside : args .self .page < pages (args .h) = omega (arith, counted .ensures, c .before .before .before .if1 .left, c .before .before .if2 .left) in
+    (pre .0, pre .1, pre .2, inside)
 
 same-length : tie.Need-same-length
 same-length c = search needs
@@ -42,9 +43,14 @@ same-length-2 c = search needs
 returns-3 : tie.Need-returns-3
 unfolding openStep
 returns-3 c =
-    let within : c .before .before .before .before .before .before .before .before .before .before .before .before .before .args .self .page ≤ pages (c .before .before .before .before .before .before .before .before .before .before .before .before .before .args .h) = omega (arith, c .before .before .before .before .before .before .before .before .before .pages .ensures, c .before .before .before .before .before .before .before .before .if1 .left) in
-    let other : c .before .before .before .before .before .before .before .before .before .before .before .before .before .args .self .page ≡ pages (c .before .before .before .before .before .before .before .before .before .before .before .before .before .args .h) → ⊥ = λ e. c .before .before .before .before .before .before .before .if2 .left (e ∙ sym (c .before .before .before .before .before .before .before .before .before .pages .ensures)) in
-    c .before .before .before .before .pass .ensures ∙ sym (simp (le-ltb _ _ within, ne-eqb _ _ other))
+    let args : _ = c .before .before .before .before .before .before .before .before .before .before .before .before .before .args in
+    let counted : _ = c .before .before .before .before .before .before .before .before .before .pages in
+    let if1 : _ = c .before .before .before .before .before .before .before .before .if1 in
+    let if2 : _ = c .before .before .before .before .before .before .before .if2 in
+    let pass : _ = c .before .before .before .before .pass in
+    let within : args .self .page ≤ pages (args .h) = omega (arith, counted .ensures, if1 .left) in
+    let other : args .self .page ≡ pages (args .h) → ⊥ = λ e. if2 .left (e ∙ sym (counted .ensures)) in
+    pass .ensures ∙ sym (simp (le-ltb _ _ within, ne-eqb _ _ other))
 
 pub step-on-spec : {M : Type 1} → statement M
 step-on-spec =
