@@ -224,10 +224,10 @@ class Script:
             if a < len(buffers[letter]):
                 buffers[letter][a] = b
         elif letter == "i":
-            self.lent_image = a
+            self.lent_image = min(a, 12)
         elif letter == "m":
-            self.lent_map = a
-        elif self.lent_image <= 12 and self.lent_map <= 96:
+            self.lent_map = min(a, 96)
+        else:
             getattr(self, "do_" + letter)(a, b, Backup(self.image[: self.lent_image], self.map[: self.lent_map]))
 
     def put_back(self, backup):
@@ -243,10 +243,8 @@ class Script:
         self.say(self.map.hex())
 
     def do_s(self, t, room, backup):
-        if t > 12 or room > 8:
-            return
         try:
-            found = backup.store(self.table[:t], room)
+            found = backup.store(self.table[:t], min(room, 8))
             self.list[: len(found)] = found
             self.put_back(backup)
             self.say(f"pages {len(found)}")
@@ -255,8 +253,6 @@ class Script:
         self.say(self.image.hex(), self.map.hex(), *map(str, self.list))
 
     def do_t(self, k, t, backup):
-        if t > 12:
-            return
         try:
             answer, after = backup.step(self.table[:t], k)
             self.put_back(backup)
@@ -271,8 +267,6 @@ class Script:
             self.say("refused %d %d" % r.args, "")
 
     def do_b(self, t, _, backup):
-        if t > 12:
-            return
         try:
             moved = backup.load_bucket(self.table[:t])
             self.table[:t] = moved

@@ -56,9 +56,12 @@ lowestDamaged h image map = firstNamed (damaged h image map) (pages h) 0
 abbrev pub bucketTests : Header → List ℕ → List ℕ → List Test
 bucketTests h image map = damageTest (ltb (lowestDamaged h image map) (pages h)) (lowestDamaged h image map) ∷ []
 
+-- a load of a backup that was opened: all of the image, moved to the table
+unfoldable pub openLoad : Header → List ℕ → List ℕ → List ℕ → Outcome
+openLoad h image map table = filling (bucketTests h image map) (length image) image table
+
 abbrev pub loadBucketTests : List ℕ → List ℕ → List ℕ → List Test
 loadBucketTests image map table = openTests (length table) (length image) map (bucketTests (headerOf map) image map)
 
--- all of the image, moved to the table
 unfoldable pub loading : List ℕ → List ℕ → List ℕ → Outcome
 loading image map table = filling (loadBucketTests image map table) (length image) image table

@@ -1,11 +1,11 @@
 // Loading from a backup: a page as the caller's own image bytes, or the whole bucket. Nothing damaged is handed out.
 ghost use mathlib.Core.Path.{_≡_};
 ghost use lib.ListN.{length};
-ghost use Rattle.units.specs.Filling.{outcomeOf, filling};
+ghost use Rattle.units.specs.Filling.{outcomeOf};
 ghost use Rattle.map.specs.Reading.{headerOf, entryAt};
 ghost use Rattle.backup.specs.Openings.{opened};
 ghost use Rattle.backup.specs.Backups.{agrees};
-ghost use Rattle.load.specs.Loads.{asking, loadedPage, lowestDamaged, bucketTests, loading};
+ghost use Rattle.load.specs.Loads.{asking, loadedPage, lowestDamaged, openLoad, loading};
 use backup::Opening;
 use map::Header;
 use units::Bytes;
@@ -100,7 +100,7 @@ pub fn load_bucket(image: &[u8], map: &[u8], table: &mut [u8]) -> Filled
 
 fn move_bucket(h: Header, image: &[u8], map: &[u8], table: &mut [u8]) -> Filled
     requires { ⌜ length (now image) ≡ length (now table) ⌝ }
-    ensures { λ r. ⌜ outcomeOf r (now (table .exit)) ≡ filling (bucketTests h (now (image .entry)) (now (map .entry))) (length (now (image .entry))) (now (image .entry)) (now (table .entry)) ⌝ }
+    ensures { λ r. ⌜ outcomeOf r (now (table .exit)) ≡ openLoad h (now (image .entry)) (now (map .entry)) (now (table .entry)) ⌝ }
 {
     let k = lowest_damaged(h, image, map);
     if k < map::pages(h) {

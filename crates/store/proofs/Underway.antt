@@ -52,7 +52,7 @@ pub record Ready (h : Header) (table image map : List ℕ) : Type 0 where
   pub table-length : length table ≡ h .bucket .count
   pub image-length : length image ≡ h .bucket .count
 
-module _ (h : Header) (table image₀ map₀ : List ℕ) (ready : Ready h table image₀ map₀) where
+module _ {h : Header} {table image₀ map₀ : List ℕ} (ready : Ready h table image₀ map₀) where
   sized : Sized h
   sized = holds-sized map₀ h (ready .holds)
 
@@ -68,7 +68,7 @@ module _ (h : Header) (table image₀ map₀ : List ℕ) (ready : Ready h table 
             sym (ap (λ (b : Backup). file h (b .entry)) (none-stored h table (backupIn (h .n) image₀ map₀)) ∙ file-of-reading map₀ (ready .map-octets) h (ready .holds));
       }
 
-  module _ (k : ℕ) (image map : List ℕ) (t : Through h table image₀ map₀ k image map) where
+  module _ {k : ℕ} {image map : List ℕ} (t : Through h table image₀ map₀ k image map) where
     pub through-reads : reading map ≡ Holds h
     through-reads = ap reading (t .map-is) ∙ file-read h _ sized (held k)
 
@@ -100,7 +100,7 @@ module _ (h : Header) (table image₀ map₀ : List ℕ) (ready : Ready h table 
 
     -- a step at the place k
 
-    module _ (s : Step) (image′ map′ : List ℕ) (e : steppedOf s image′ map′ ≡ openStep h table image map (record { page = k })) where
+    module _ {s : Step} {image′ map′ : List ℕ} (e : steppedOf s image′ map′ ≡ openStep h table image map (record { page = k })) where
       on : k < pages h
           → steppedOf s image′ map′
           ≡ passedTo h (cond (agrees h (entryAt (h .n) map₀) table k) (Kept k) (Written k)) k (stored h table (backupIn (h .n) image₀ map₀) (suc k))
@@ -154,12 +154,12 @@ module _ (h : Header) (table image₀ map₀ : List ℕ) (ready : Ready h table 
       pub taken : Passed ⊎ Done
       taken = dite (decLt k (pages h)) (λ (inside : k < pages h). inl (passed inside)) (λ past. inr (done (omega (arith, t .within))))
 
-      pub on-kept : (j : ℕ) → s .answer ≡ Kept j → Passed × (agrees h (entryAt (h .n) map₀) table k ≡ true)
-      on-kept j is =
+      pub on-kept : {j : ℕ} → s .answer ≡ Kept j → Passed × (agrees h (entryAt (h .n) map₀) table k ≡ true)
+      on-kept {j} is =
           ⊎-elim (λ (p : Passed). (p, told-kept k _ j (sym is ∙ p .told))) (λ (d : Done). absurd (kept-not-finished j (sym is ∙ d .told))) taken
 
-      pub on-written : (j : ℕ) → s .answer ≡ Written j → Passed × (agrees h (entryAt (h .n) map₀) table k ≡ false) × (j ≡ k)
-      on-written j is =
+      pub on-written : {j : ℕ} → s .answer ≡ Written j → Passed × (agrees h (entryAt (h .n) map₀) table k ≡ false) × (j ≡ k)
+      on-written {j} is =
           ⊎-elim
           (λ (p : Passed). let w : _ = told-written k _ j (sym is ∙ p .told) in (p, w .0, w .1))
           (λ (d : Done). absurd (written-not-finished j (sym is ∙ d .told)))
@@ -183,7 +183,7 @@ pub record Noted (h : Header) (table map₀ list₀ : List ℕ) (k : ℕ) (list 
   pub list-is : list ≡ written list₀ 0 (changed h table (entryAt (h .n) map₀) k)
   pub found-is : found ≡ length (changed h table (entryAt (h .n) map₀) k)
 
-module _ (h : Header) (table map₀ list₀ : List ℕ) where
+module _ {h : Header} {table map₀ list₀ : List ℕ} where
   pub none-noted : Noted h table map₀ list₀ 0 list₀ 0
   none-noted =
       record {
@@ -191,7 +191,7 @@ module _ (h : Header) (table map₀ list₀ : List ℕ) where
         found-is = sym (ap length (named-none _));
       }
 
-  module _ (k : ℕ) (list : List ℕ) (found : ℕ) (n : Noted h table map₀ list₀ k list found) where
+  module _ {k : ℕ} {list : List ℕ} {found : ℕ} (n : Noted h table map₀ list₀ k list found) where
     pub noted-below : found ≤ k
     noted-below = omega (arith, n .found-is, named-length (λ i. not (agrees h (entryAt (h .n) map₀) table i)) k)
 
@@ -201,15 +201,15 @@ module _ (h : Header) (table map₀ list₀ : List ℕ) where
         ∙ written-length list₀ 0 (changed h table (entryAt (h .n) map₀) k) (omega (arith, named-length (λ i. not (agrees h (entryAt (h .n) map₀) table i)) k))
 
     -- the next place
-    pub noted-kept : (next : ℕ) → next ≡ suc k → agrees h (entryAt (h .n) map₀) table k ≡ true → Noted h table map₀ list₀ next list found
-    noted-kept next up e =
+    pub noted-kept : {next : ℕ} → next ≡ suc k → agrees h (entryAt (h .n) map₀) table k ≡ true → Noted h table map₀ list₀ next list found
+    noted-kept {next} up e =
         let no : changed h table (entryAt (h .n) map₀) (suc k) ≡ changed h table (entryAt (h .n) map₀) k = named-no-more _ k (ap not e) in
         subst (λ (i : ℕ). Noted h table map₀ list₀ i list found) (sym up)
         (record { list-is = n .list-is ∙ ap (written list₀ 0) (sym no); found-is = n .found-is ∙ ap length (sym no) })
 
-    pub noted-written : (next : ℕ) → next ≡ suc k → (j : ℕ) → j ≡ k → agrees h (entryAt (h .n) map₀) table k ≡ false → k < length list₀
+    pub noted-written : {next j : ℕ} → next ≡ suc k → j ≡ k → agrees h (entryAt (h .n) map₀) table k ≡ false → k < length list₀
         → Noted h table map₀ list₀ next (set list found j) (found + 1)
-    noted-written next up j is e room =
+    noted-written {next} {j} up is e room =
         let xs : List ℕ = changed h table (entryAt (h .n) map₀) k in
         let more : changed h table (entryAt (h .n) map₀) (suc k) ≡ xs ++ (k ∷ []) = named-more _ k (ap not e) in
         let short : length xs ≤ k = named-length (λ i. not (agrees h (entryAt (h .n) map₀) table i)) k in
@@ -228,10 +228,10 @@ module _ (h : Header) (table map₀ list₀ : List ℕ) where
 
 -- ---- all pages are through: the store is what its definition says
 
-pub all-through : (h : Header) (table image₀ map₀ list₀ : List ℕ) (k : ℕ) (image map list : List ℕ) (found : ℕ) → k ≡ pages h → pages h ≤ length list₀
+pub all-through : {h : Header} {table image₀ map₀ list₀ : List ℕ} {k : ℕ} {image map list : List ℕ} {found : ℕ} → k ≡ pages h → pages h ≤ length list₀
     → Through h table image₀ map₀ k image map → Noted h table map₀ list₀ k list found → storedOf (Numbers found) image map list ≡ openStore h table image₀ map₀ list₀
 unfolding openStore
-all-through h table image₀ map₀ list₀ k image map list found all room t n =
+all-through {h} {table} {image₀} {map₀} {list₀} {k} {image} {map} {list} {found} all room t n =
     let b : Backup = backupIn (h .n) image₀ map₀ in
     let so : openStore h table image₀ map₀ list₀ ≡ storedTo h (stored h table b (pages h)) (changed h table (entryAt (h .n) map₀) (pages h)) list₀ =
     simp (le-ltb _ _ room) in

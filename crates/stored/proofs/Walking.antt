@@ -43,8 +43,8 @@ module _ (h : Header) (table image map : List ℕ) (ready : Ready h table image 
   module _ (m : ℕ) (w : Walk) (r : Reached m w) where
     opens : stepping table (w .image) (w .map) (w .place) ≡ openStep h table (w .image) (w .map) (record { page = m })
     opens =
-        step-opens h table (w .image) (w .map) (w .place) (through-reads h table image map ready m _ _ (r .through)) (ready .table-length)
-        (through-length h table image map ready m _ _ (r .through))
+        step-opens h table (w .image) (w .map) (w .place) (through-reads ready (r .through)) (ready .table-length)
+        (through-length ready (r .through))
         ∙ ap (openStep h table (w .image) (w .map)) (r .place-is)
 
     abbrev step : Step
@@ -54,7 +54,7 @@ module _ (h : Header) (table image map : List ℕ) (ready : Ready h table image 
     unfolding named
     on inside =
         ⊎-elim
-        (λ (p : Passed h table image map ready m (w .image) (w .map) (r .through) step _ _ opens).
+        (λ (p : Passed ready (r .through) {s = step} opens).
         record {
           place-is = ap {B = Place} (λ (i : ℕ). record { page = i }) (p .up);
           through =
@@ -63,19 +63,19 @@ module _ (h : Header) (table image map : List ℕ) (ready : Ready h table image 
           numbers-are =
               ap₂ _++_ (r .numbers-are) (ap writtenBy (p .told) ∙ noted (agrees h (entryAt (h .n) map) table m) m);
         })
-        (λ (d : Done h table image map ready m (w .image) (w .map) (r .through) step _ _ opens). absurd (omega (arith, d .all)))
-        (taken h table image map ready m (w .image) (w .map) (r .through) step _ _ opens)
+        (λ (d : Done ready (r .through) {s = step} opens). absurd (omega (arith, d .all)))
+        (taken ready (r .through) {s = step} opens)
 
     ends : m ≡ pages h → stepping table (w .image) (w .map) (w .place) .answer ≡ Finished
     ends all =
         ⊎-elim
-        (λ (p : Passed h table image map ready m (w .image) (w .map) (r .through) step _ _ opens). absurd (omega (arith, p .inside)))
-        (λ (d : Done h table image map ready m (w .image) (w .map) (r .through) step _ _ opens). d .told)
-        (taken h table image map ready m (w .image) (w .map) (r .through) step _ _ opens)
+        (λ (p : Passed ready (r .through) {s = step} opens). absurd (omega (arith, p .inside)))
+        (λ (d : Done ready (r .through) {s = step} opens). d .told)
+        (taken ready (r .through) {s = step} opens)
 
   reached : (m : ℕ) → m ≤ pages h → Reached m (walked table (outset image map) m)
   unfolding walked
-  reached zero most = record { place-is = refl; through = none-through h table image map ready; numbers-are = sym (named-none _) }
+  reached zero most = record { place-is = refl; through = none-through ready; numbers-are = sym (named-none _) }
   reached (suc m) most = on m (walked table (outset image map) m) (reached m (omega arith)) (omega arith)
 
 -- what the whole store leaves, the walk has left when its next step says finished

@@ -1,5 +1,6 @@
 // Runs a script on one small backup. A command on standard input is three bytes, a letter and two numbers; each that asks something of the library prints
-// the answer and what the buffers hold then, those parts too that were not lent. Commands for which the buffers are too short are passed over.
+// the answer and what the buffers hold then, those parts too that were not lent. Of a buffer that is shorter than asked for, all is lent.
+ghost use Prim.Native.Nat.{_≤_};
 use libc::STDIN_FILENO;
 use libc::STDOUT_FILENO;
 use store::Answer;
@@ -81,61 +82,47 @@ fn set(b: &mut [u8], i: usize, x: u8) {
     }
 }
 
+// A part that a buffer has.
+fn within(x: usize, most: usize) -> usize
+    ensures { λ r. ⌜ r ≤ most ⌝ }
+{
+    if x > most {
+        return most;
+    }
+    x
+}
+
 // The map of the image, with n components and pages of so many bytes.
 fn make(n: usize, page: usize, lent: Lent, image: &[u8], map: &mut [u8]) {
-    let i = lent.image;
-    let m = lent.map;
-    if i > image.len() {
-        return;
-    }
-    if m > map.len() {
-        return;
-    }
+    let i = within(lent.image, image.len());
+    let m = within(lent.map, map.len());
     filled(map::make(n, Bytes { count: page }, &image[..i], &mut map[..m]));
     bytes(map);
 }
 
 fn store(
-    t: usize,
-    l: usize,
+    x: usize,
+    y: usize,
     lent: Lent,
     table: &[u8],
     image: &mut [u8],
     map: &mut [u8],
     list: &mut [usize],
 ) {
-    let i = lent.image;
-    let m = lent.map;
-    if t > table.len() {
-        return;
-    }
-    if i > image.len() {
-        return;
-    }
-    if m > map.len() {
-        return;
-    }
-    if l > list.len() {
-        return;
-    }
+    let t = within(x, table.len());
+    let i = within(lent.image, image.len());
+    let m = within(lent.map, map.len());
+    let l = within(y, list.len());
     listed(store::store(&table[..t], &mut image[..i], &mut map[..m], &mut list[..l]));
     bytes(image);
     bytes(map);
     numbers(list);
 }
 
-fn step(page: usize, t: usize, lent: Lent, table: &[u8], image: &mut [u8], map: &mut [u8]) {
-    let i = lent.image;
-    let m = lent.map;
-    if t > table.len() {
-        return;
-    }
-    if i > image.len() {
-        return;
-    }
-    if m > map.len() {
-        return;
-    }
+fn step(page: usize, y: usize, lent: Lent, table: &[u8], image: &mut [u8], map: &mut [u8]) {
+    let t = within(y, table.len());
+    let i = within(lent.image, image.len());
+    let m = within(lent.map, map.len());
     let place = Place { page };
     let step = place.step(&table[..t], &mut image[..i], &mut map[..m]);
     let answer = step.answer;
@@ -146,30 +133,16 @@ fn step(page: usize, t: usize, lent: Lent, table: &[u8], image: &mut [u8], map: 
 }
 
 fn load_page(k: usize, lent: Lent, image: &[u8], map: &[u8]) {
-    let i = lent.image;
-    let m = lent.map;
-    if i > image.len() {
-        return;
-    }
-    if m > map.len() {
-        return;
-    }
+    let i = within(lent.image, image.len());
+    let m = within(lent.map, map.len());
     asked(load::ask_page(&image[..i], &map[..m], k));
     bytes(load::load_page(&image[..i], &map[..m], k));
 }
 
-fn load_bucket(t: usize, lent: Lent, image: &[u8], map: &[u8], table: &mut [u8]) {
-    let i = lent.image;
-    let m = lent.map;
-    if t > table.len() {
-        return;
-    }
-    if i > image.len() {
-        return;
-    }
-    if m > map.len() {
-        return;
-    }
+fn load_bucket(x: usize, lent: Lent, image: &[u8], map: &[u8], table: &mut [u8]) {
+    let t = within(x, table.len());
+    let i = within(lent.image, image.len());
+    let m = within(lent.map, map.len());
     filled(load::load_bucket(&image[..i], &map[..m], &mut table[..t]));
     bytes(table);
 }

@@ -1,3 +1,5 @@
+-- `backup::matched` meets its contract: the two lengths, one after the other.
+-- Assumes nothing.
 use borrow.Author.Tests.{ne-eqb, eq-eqb}
 use Rattle.backup.proofs.matched.Statement.{statement}
 use Rattle.backup.proofs.matched.Tie as tie

@@ -1,3 +1,5 @@
+-- `backup::open` meets its contract: the map's reading decides, and where it holds the lengths.
+-- Assumes nothing.
 use mathlib.Core.Path.{sym, _∙_}
 use borrow.Author.Needs.{needs}
 use Rattle.backup.proofs.Opened.{open-breaks, open-holds}

@@ -1,3 +1,5 @@
+-- `backup::same` meets its contract: component by component, each compared once.
+-- Assumes nothing.
 use mathlib.Core.Path.{sym}
 use borrow.Author.Tests.{ne-eqb, eq-eqb}
 use Rattle.backup.specs.Backups.{same}

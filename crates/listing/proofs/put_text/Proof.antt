@@ -1,3 +1,5 @@
+-- `listing::put_text` meets its contract: a text for which there is room is put.
+-- Assumes nothing.
 use mathlib.Core.List.{List}
 use mathlib.Core.Path.{ap, _∙_}
 use Prim.Native.Nat.{ℕ, _+_}

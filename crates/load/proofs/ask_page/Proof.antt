@@ -1,3 +1,5 @@
+-- `load::ask_page` meets its contract: the question is what opening the page answered.
+-- Assumes nothing.
 use mathlib.Core.Path.{sym, _∙_}
 use borrow.Author.Needs.{needs}
 use Rattle.backup.proofs.Opened.{opened-open, opened-refused}

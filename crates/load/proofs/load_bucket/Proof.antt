@@ -1,3 +1,5 @@
+-- `load::load_bucket` meets its contract: what opening refuses the load refuses, and else the tests of the bucket decide.
+-- Assumes nothing.
 use mathlib.Core.Path.{sym, ap, _∙_}
 use lib.ListN.{length}
 use borrow.Author.Needs.{needs}
@@ -5,7 +7,7 @@ use Rattle.units.specs.Filling.{outcome}
 use Rattle.units.specs.declared.Verdict.{Verdict}
 use Rattle.map.specs.Reading.{headerOf}
 use Rattle.backup.proofs.Opened.{Usable, open-usable, open-refused}
-use Rattle.load.specs.Loads.{loading, bucketTests}
+use Rattle.load.specs.Loads.{loading, openLoad, bucketTests}
 use Rattle.load.proofs.load_bucket.Statement.{statement}
 use Rattle.load.proofs.load_bucket.Tie as tie
 
@@ -36,7 +38,7 @@ same-length : tie.Need-same-length
 same-length c = search needs
 
 returns-2 : tie.Need-returns-2
-unfolding loading
+unfolding loading openLoad
 returns-2 c =
     let opens : _ = c .before .before .before .before .before .before .before .«open» in
     let opening2 : _ = c .before .before .before .before .before .opening2 in

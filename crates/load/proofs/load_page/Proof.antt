@@ -1,3 +1,5 @@
+-- `load::load_page` meets its contract: the page where it opened, and else an empty part.
+-- Assumes nothing.
 use mathlib.Core.Path.{_≡_, sym, ap, ap₂, _∙_}
 use borrow.Author.Needs.{needs}
 use Rattle.units.specs.declared.Verdict.{Verdict}
@@ -28,7 +30,8 @@ returns c =
     let open-page : _ = c .before .before .before .open-page in
     let args : _ = c .before .before .before .before .before .before .args in
     sym (ap (λ (v : Verdict). partUnless v (pageAt (headerOf (args .map .now) .page .count) (args .image .now) (args .k)))
-    (opened-refused (asking (args .image .now) (args .map .now) (args .k)) (headerOf (args .map .now)) (c .before .enum-told .given .0 .0) (sym (open-page .ensures) ∙ c .before .enum-told .given .1)))
+    (opened-refused (asking (args .image .now) (args .map .now) (args .k)) (headerOf (args .map .now)) (c .before .enum-told .given .0 .0)
+    (sym (open-page .ensures) ∙ c .before .enum-told .given .1)))
 
 page-at-requires : tie.Need-page-at-requires
 page-at-requires c κs = search needs

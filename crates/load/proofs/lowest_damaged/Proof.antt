@@ -1,3 +1,5 @@
+-- `load::lowest_damaged` meets its contract. The invariant: the first damaged page of those left is the first of all.
+-- Assumes nothing.
 use mathlib.Core.Bool.{true, false, not}
 use mathlib.Core.Path.{_≡_, sym, ap, _∙_}
 use Prim.Native.Nat.{ℕ, suc, _+_, _-_}

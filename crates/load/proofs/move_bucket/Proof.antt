@@ -1,3 +1,5 @@
+-- `load::move_bucket` meets its contract: nothing moves unless no page is damaged, and then all of the image.
+-- Assumes nothing.
 use mathlib.Core.Path.{ap, _∙_}
 use Prim.Native.Nat.{ℕ, _+_, _≤_, _<_}
 use native.Mathlib.Omega.{arith}
@@ -9,7 +11,7 @@ use Rattle.units.specs.declared.Filled.{Filled}
 use Rattle.units.specs.declared.Filled.the-variants.{Written, Refused}
 use Rattle.units.proofs.Writing.{part-put}
 use Rattle.map.specs.Files.{pages}
-use Rattle.load.specs.Loads.{lowestDamaged}
+use Rattle.load.specs.Loads.{lowestDamaged, openLoad}
 use Rattle.load.proofs.move_bucket.Statement.{statement}
 use Rattle.load.proofs.move_bucket.Tie as tie
 
@@ -23,6 +25,7 @@ refused-requires : tie.Need-refused-requires
 refused-requires c κs = search needs
 
 returns : tie.Need-returns
+unfolding openLoad
 returns c =
     let lowest-damaged : _ = c .before .before .before .lowest-damaged in
     let args : _ = c .before .before .before .before .before .before .before .args in
@@ -36,6 +39,7 @@ same-length : tie.Need-same-length
 same-length c = search needs
 
 returns-2 : tie.Need-returns-2
+unfolding openLoad
 returns-2 c =
     let pre : _ = c .before .before .before .before .before .before .before .before .before .before .pre in
     let lowest-damaged : _ = c .before .before .before .before .before .before .lowest-damaged in

@@ -1,3 +1,5 @@
+-- `load::open_page` meets its contract: each return is the definition at the tests that led there.
+-- Assumes nothing.
 use mathlib.Core.Bool.{true, false}
 use mathlib.Core.Path.{_≡_, sym, ap, ap₂, _∙_}
 use Prim.Native.Nat.{_≤_, _<_}
@@ -34,7 +36,8 @@ returns c =
     let args : _ = c .before .before .before .before .before .args in
     c .enum-told .given .1
     ∙ sym (ap (λ (v : Verdict). opened v (headerOf (args .map .now)))
-    (open-refused _ _ _ (c .enum-told .given .0 .0) (sym (c .before .before .«open» .ensures) ∙ c .enum-told .given .1) (pageTests (headerOf (args .map .now)) (args .image .now) (args .map .now) (args .k))))
+    (open-refused _ _ _ (c .enum-told .given .0 .0) (sym (c .before .before .«open» .ensures) ∙ c .enum-told .given .1)
+    (pageTests (headerOf (args .map .now)) (args .image .now) (args .map .now) (args .k))))
 
 pages-requires : tie.Need-pages-requires
 pages-requires c κs = search needs

@@ -1,3 +1,5 @@
+-- `load::whole` meets its contract: the page's own signature is held against its entry's.
+-- Assumes nothing.
 use mathlib.Core.Path.{sym}
 use borrow.Author.Needs.{needs}
 use Rattle.backup.proofs.Sameness.{agrees-by}

@@ -1,3 +1,5 @@
+-- `store::ended` meets its contract: the refusal if there is one, and else the count.
+-- Assumes nothing.
 use mathlib.Core.Path.{sym, ap}
 use borrow.Author.Needs.{needs}
 use Rattle.store.specs.Stores.{endedBy}

@@ -1,3 +1,5 @@
+-- `store::pass` meets its contract: a kept page is left as it is; a written one is put in its place, and its signature into its entry.
+-- Assumes nothing.
 use mathlib.Core.List.{List}
 use mathlib.Core.Bool.{true, false}
 use mathlib.Core.Path.{_≡_, sym, ap, ap₂, _∙_}

@@ -1,3 +1,5 @@
+-- `store::store` meets its contract: what opening refuses the store refuses, and else it is the store on the open backup.
+-- Assumes nothing.
 use mathlib.Core.Path.{sym, ap, ap₂, _∙_}
 use borrow.Author.Needs.{needs}
 use Rattle.units.specs.declared.Verdict.{Verdict}

@@ -1,6 +1,8 @@
+-- `store::store_on` meets its contract. The invariant: the pages before the place are through, and those written are listed.
+-- Assumes nothing.
 use mathlib.Core.List.{List}
 use mathlib.Core.Path.{_≡_, sym, ap, ap₂, _∙_}
-use Prim.Native.Nat.{ℕ, suc, _-_, _≤_, _<_}
+use Prim.Native.Nat.{ℕ, _≤_, _<_, _-_}
 use native.Mathlib.Omega.{arith}
 use lib.ListN.{length}
 use borrow.Author.Tests.{lt-ltb}
@@ -12,7 +14,8 @@ use Rattle.map.proofs.Holding.{holds-sized}
 use Rattle.backup.proofs.Bounds.{few-pages}
 use Rattle.store.specs.Stores.{openStore, storedOf, endedBy}
 use Rattle.store.specs.declared.Answer.{Answer}
-use Rattle.store.proofs.Underway.{all-through, on-kept, on-written, on-neither, Ready, Done, none-through, none-noted, through-reads, through-length, through-map-length, noted-below, noted-length, noted-kept, noted-written, Through, Noted}
+use Rattle.store.proofs.Underway.{none-noted, noted-below, noted-length, noted-kept, noted-written, none-through, through-reads, through-length, through-map-length}
+use Rattle.store.proofs.Underway.{Ready, Passed, Done, on-kept, on-written, on-neither, all-through, Through, Noted}
 use Rattle.store.proofs.store_on.Statement.{statement}
 use Rattle.store.proofs.store_on.Tie as tie
 
@@ -23,18 +26,29 @@ Inv-loop h table image₀ map₀ list₀ count place₀ found₀ image map list 
 abbrev μ-loop : tie.MeasureT-loop
 μ-loop h table image₀ map₀ list₀ count place₀ found₀ image map list place found = pages h - place .page
 
-ready : (c : tie.After-place Inv-loop μ-loop) → Ready (c .before .before .before .before .before .before .before .before .before .before .before .before .before .before .before .args .h) (c .before .before .before .before .before .before .before .before .before .before .before .before .before .before .before .args .table .now) (c .before .before .before .before .before .before .before .before .before .before .before .before .before .before .before .args .image .now) (c .before .before .before .before .before .before .before .before .before .before .before .before .before .before .before .args .map .now)
+abbrev start : tie.Else1 Inv-loop μ-loop → tie.Start Inv-loop μ-loop
+start c = c .before .before .before .before .before .before
+
+-- the map was read, and the list has room for every page
+ready : (c : tie.Else1 Inv-loop μ-loop) → Ready (start c .args .h) (start c .args .table .now) (start c .args .image .now) (start c .args .map .now)
 ready c =
-    let shared-slice-known : _ = c .before .before .before .before .before .before .before .before .before .before .before .before .before .before .shared-slice-known in
-    let pre : _ = c .before .before .before .before .before .before .before .before .before .before .before .before .before .before .before .pre in
-    let slice-known2 : _ = c .before .before .before .before .before .before .before .before .before .before .before .before .slice-known2 in
+    let pre : _ = start c .pre in
     record {
-      table-octets = λ i. shared-slice-known .given i .fits;
-      map-octets = λ i. slice-known2 .given i .fits;
+      table-octets = λ i. c .before .before .before .before .before .shared-slice-known .given i .fits;
+      map-octets = λ i. c .before .before .before .slice-known2 .given i .fits;
       holds = pre .0;
       table-length = pre .1;
       image-length = pre .2;
     }
+
+enough : (c : tie.Else1 Inv-loop μ-loop) → pages (start c .args .h) ≤ length (start c .args .list .now)
+enough c = omega (arith, c .before .pages .ensures, c .if1 .left)
+
+few : (c : tie.Else1 Inv-loop μ-loop) → pages (start c .args .h) ≤ 4096
+few c =
+    let args : _ = start c .args in
+    let pre : _ = start c .pre in
+    few-pages (args .h) (holds-sized (args .map .now) (args .h) (pre .0))
 
 pages-requires : tie.Need-pages-requires Inv-loop μ-loop
 pages-requires c κs = search needs
@@ -48,23 +62,12 @@ returns c =
     ∙ sym (simp (lt-ltb _ _ short))
 
 loop-holds : tie.Need-loop-holds Inv-loop μ-loop
-loop-holds c =
-    let shared-slice-known : _ = c .before .before .before .before .before .shared-slice-known in
-    let pre : _ = c .before .before .before .before .before .before .pre in
-    let slice-known2 : _ = c .before .before .before .slice-known2 in (
-      none-through _ _ _ _ (record { table-octets = λ i. shared-slice-known .given i .fits; map-octets = λ i. slice-known2 .given i .fits; holds = pre .0; table-length = pre .1; image-length = pre .2 }),
-      none-noted _ _ _ _,
-    )
+loop-holds c = (none-through (ready c), none-noted)
 
 step-on-requires : tie.Need-step-on-requires Inv-loop μ-loop
 step-on-requires c κs =
-    let shared-slice-known : _ = c .before .before .before .before .before .before .before .before .shared-slice-known in
     let pre : _ = c .before .before .before .before .before .before .before .before .before .pre in
-    let slice-known2 : _ = c .before .before .before .before .before .before .slice-known2 in
-    let args : _ = c .before .before .before .before .before .before .before .before .before .args in
-    let r : Ready (args .h) (args .table .now) (args .image .now) (args .map .now) =
-    record { table-octets = λ i. shared-slice-known .given i .fits; map-octets = λ i. slice-known2 .given i .fits; holds = pre .0; table-length = pre .1; image-length = pre .2 } in
-    (through-reads _ _ _ _ r _ _ _ (c .before .before .loop .inv .0), pre .1, through-length _ _ _ _ r _ _ _ (c .before .before .loop .inv .0))
+    (through-reads (ready (c .before .before .before)) (c .before .before .loop .inv .0), pre .1, through-length (ready (c .before .before .before)) (c .before .before .loop .inv .0))
 
 enum-known-answer : tie.Need-enum-known-answer Inv-loop μ-loop
 enum-known-answer c = search needs
@@ -78,108 +81,90 @@ ended-requires c κs = search needs
 same-length : tie.Need-same-length Inv-loop μ-loop
 same-length c =
     let pre : _ = c .before .before .before .before .before .before .before .before .before .before .before .before .before .before .before .before .before .before .pre in
+    let before : _ = c .before .before .before .before .before .before .before .before .before .before .before .before in
     let loop : _ = c .before .before .before .before .before .before .before .before .before .before .before .loop in
     let step-on : _ = c .before .before .before .before .before .before .before .before .step-on in
-    let d : Done _ _ _ _ (ready (c .before .before .before)) _ _ _ (loop .inv .0) _ _ _ (step-on .ensures) = on-neither _ _ _ _ (ready (c .before .before .before)) _ _ _ (loop .inv .0) _ _ _ (step-on .ensures) (c .before .match2 .keys2) (c .before .before .match .keys2) in
-    ap length (d .image-kept) ∙ through-length _ _ _ _ (ready (c .before .before .before)) _ _ _ (loop .inv .0) ∙ sym (pre .2)
+    let d : Done (ready before) (loop .inv .0) (step-on .ensures) = on-neither (ready before) (loop .inv .0) (step-on .ensures) (c .before .match2 .keys2) (c .before .before .match .keys2) in
+    ap length (d .image-kept) ∙ through-length (ready before) (loop .inv .0) ∙ sym (pre .2)
 
 same-length-2 : tie.Need-same-length-2 Inv-loop μ-loop
 same-length-2 c =
+    let before : _ = c .before .before .before .before .before .before .before .before .before .before .before .before in
     let loop : _ = c .before .before .before .before .before .before .before .before .before .before .before .loop in
     let step-on : _ = c .before .before .before .before .before .before .before .before .step-on in
-    let d : Done _ _ _ _ (ready (c .before .before .before)) _ _ _ (loop .inv .0) _ _ _ (step-on .ensures) = on-neither _ _ _ _ (ready (c .before .before .before)) _ _ _ (loop .inv .0) _ _ _ (step-on .ensures) (c .before .match2 .keys2) (c .before .before .match .keys2) in
-    ap length (d .map-kept) ∙ through-map-length _ _ _ _ (ready (c .before .before .before)) _ _ _ (loop .inv .0)
+    let d : Done (ready before) (loop .inv .0) (step-on .ensures) = on-neither (ready before) (loop .inv .0) (step-on .ensures) (c .before .match2 .keys2) (c .before .before .match .keys2) in
+    ap length (d .map-kept) ∙ through-map-length (ready before) (loop .inv .0)
 
 same-length-3 : tie.Need-same-length-3 Inv-loop μ-loop
 same-length-3 c =
-    let counted : _ = c .before .before .before .before .before .before .before .before .before .before .before .before .before .pages in
-    let if1 : _ = c .before .before .before .before .before .before .before .before .before .before .before .before .if1 in
+    let before : _ = c .before .before .before .before .before .before .before .before .before .before .before .before in
     let loop : _ = c .before .before .before .before .before .before .before .before .before .before .before .loop in
-    noted-length _ _ _ _ _ _ _ (loop .inv .1) (omega (arith, loop .inv .0 .within, counted .ensures, if1 .left))
+    noted-length (loop .inv .1) (omega (arith, loop .inv .0 .within, enough before))
 
 returns-2 : tie.Need-returns-2 Inv-loop μ-loop
 returns-2 c =
-    let counted : _ = c .before .before .before .before .before .before .before .before .before .before .before .before .before .pages in
-    let if1 : _ = c .before .before .before .before .before .before .before .before .before .before .before .before .if1 in
+    let before : _ = c .before .before .before .before .before .before .before .before .before .before .before .before in
     let loop : _ = c .before .before .before .before .before .before .before .before .before .before .before .loop in
     let step-on : _ = c .before .before .before .before .before .before .before .before .step-on in
-    let args : _ = c .before .before .before .before .before .before .before .before .before .before .before .before .before .before .before .before .before .before .args in
-    let d : Done _ _ _ _ (ready (c .before .before .before)) _ _ _ (loop .inv .0) _ _ _ (step-on .ensures) = on-neither _ _ _ _ (ready (c .before .before .before)) _ _ _ (loop .inv .0) _ _ _ (step-on .ensures) (c .before .match2 .keys2) (c .before .before .match .keys2) in
-    let enough : pages (args .h) ≤ length (args .list .now) = omega (arith, counted .ensures, if1 .left) in
+    let d : Done (ready before) (loop .inv .0) (step-on .ensures) = on-neither (ready before) (loop .inv .0) (step-on .ensures) (c .before .match2 .keys2) (c .before .before .match .keys2) in
     let answer : c .ended .result ≡ Numbers (loop .found) = c .ended .ensures ∙ ap (λ (a : Answer). endedBy a (loop .found)) (d .told) in
     ap₂ (λ (i m : List ℕ). storedOf (c .ended .result) i m (loop .list)) (d .image-kept) (d .map-kept)
     ∙ ap (λ (a : Listed). storedOf a (loop .image) (loop .map) (loop .list)) answer
-    ∙ all-through _ _ _ _ _ _ _ _ _ _ (d .all) enough (loop .inv .0) (loop .inv .1)
+    ∙ all-through (d .all) (enough before) (loop .inv .0) (loop .inv .1)
 
 loop-less : tie.Need-loop-less Inv-loop μ-loop
 loop-less c =
-    let args : _ = c .before .before .before .before .before .before .before .before .before .before .before .before .before .before .before .before .before .before .args in
+    let before : _ = c .before .before .before .before .before .before .before .before .before .before .before .before in
     let loop : _ = c .before .before .before .before .before .before .before .before .before .before .before .loop in
     let step-on : _ = c .before .before .before .before .before .before .before .before .step-on in
-    let p : _ = on-kept _ _ _ _ (ready (c .before .before .before)) _ _ _ (loop .inv .0) _ _ _ (step-on .ensures) _ (c .enum-told .given .1) in
-    let up : step-on .result .next .page ≡ suc (loop .place .page) = p .0 .up in
-    let inside : loop .place .page < pages (args .h) = p .0 .inside in
-    omega arith
+    let p : Passed (ready before) (loop .inv .0) (step-on .ensures) = on-kept (ready before) (loop .inv .0) (step-on .ensures) (c .enum-told .given .1) .0 in
+    omega (arith, p .up, p .inside)
 
 loop-again : tie.Need-loop-again Inv-loop μ-loop
 loop-again c =
+    let before : _ = c .before .before .before .before .before .before .before .before .before .before .before .before in
     let loop : _ = c .before .before .before .before .before .before .before .before .before .before .before .loop in
     let step-on : _ = c .before .before .before .before .before .before .before .before .step-on in
-    let p : _ = on-kept _ _ _ _ (ready (c .before .before .before)) _ _ _ (loop .inv .0) _ _ _ (step-on .ensures) _ (c .enum-told .given .1) in
-    (p .0 .next, noted-kept _ _ _ _ _ _ _ (loop .inv .1) _ (p .0 .up) (p .1))
+    let p : Passed (ready before) (loop .inv .0) (step-on .ensures) × _ = on-kept (ready before) (loop .inv .0) (step-on .ensures) (c .enum-told .given .1) in
+    (p .0 .next, noted-kept (loop .inv .1) (p .0 .up) (p .1))
 
 mul-list : tie.Need-mul-list Inv-loop μ-loop
 mul-list c =
-    let args : _ = c .before .before .before .before .before .before .before .before .before .before .before .before .before .before .before .before .before .before .args in
-    let pre : _ = c .before .before .before .before .before .before .before .before .before .before .before .before .before .before .before .before .before .before .pre in
+    let before : _ = c .before .before .before .before .before .before .before .before .before .before .before .before in
     let loop : _ = c .before .before .before .before .before .before .before .before .before .before .before .loop in
-    let few : pages (args .h) ≤ 4096 = few-pages (args .h) (holds-sized _ (args .h) (pre .0)) in
-    let found : loop .found ≤ loop .place .page = noted-below _ _ _ _ _ _ _ (loop .inv .1) in
-    record { fits = omega (arith, loop .inv .0 .within) }
+    record { fits = omega (arith, loop .inv .0 .within, noted-below (loop .inv .1), few before) }
 
 slice-write-list : tie.Need-slice-write-list Inv-loop μ-loop
 slice-write-list c =
     let args : _ = c .before .before .before .before .before .before .before .before .before .before .before .before .before .before .before .before .before .before .args in
-    let counted : _ = c .before .before .before .before .before .before .before .before .before .before .before .before .before .pages in
-    let if1 : _ = c .before .before .before .before .before .before .before .before .before .before .before .before .if1 in
+    let before : _ = c .before .before .before .before .before .before .before .before .before .before .before .before in
     let loop : _ = c .before .before .before .before .before .before .before .before .before .before .before .loop in
     let step-on : _ = c .before .before .before .before .before .before .before .before .step-on in
-    let p : _ = on-written _ _ _ _ (ready (c .before .before .before)) _ _ _ (loop .inv .0) _ _ _ (step-on .ensures) _ (c .before .answer .given .1) in
-    let inside : loop .place .page < pages (args .h) = p .0 .inside in
-    let found : loop .found ≤ loop .place .page = noted-below _ _ _ _ _ _ _ (loop .inv .1) in
-    let enough : pages (args .h) ≤ length (args .list .now) = omega (arith, counted .ensures, if1 .left) in
-    omega (arith, noted-length _ _ _ _ _ _ _ (loop .inv .1) (omega arith))
+    let p : Passed (ready before) (loop .inv .0) (step-on .ensures) = on-written (ready before) (loop .inv .0) (step-on .ensures) (c .before .answer .given .1) .0 in
+    let long : length (loop .list) ≡ length (args .list .now) = noted-length (loop .inv .1) (omega (arith, p .inside, enough before)) in
+    omega (arith, p .inside, enough before, noted-below (loop .inv .1))
 
 add-found : tie.Need-add-found Inv-loop μ-loop
 add-found c =
-    let args : _ = c .before .before .before .before .before .before .before .before .before .before .before .before .before .before .before .before .before .before .args in
-    let pre : _ = c .before .before .before .before .before .before .before .before .before .before .before .before .before .before .before .before .before .before .pre in
+    let before : _ = c .before .before .before .before .before .before .before .before .before .before .before .before in
     let loop : _ = c .before .before .before .before .before .before .before .before .before .before .before .loop in
-    let few : pages (args .h) ≤ 4096 = few-pages (args .h) (holds-sized _ (args .h) (pre .0)) in
-    let found : loop .found ≤ loop .place .page = noted-below _ _ _ _ _ _ _ (loop .inv .1) in
-    record { fits = omega (arith, loop .inv .0 .within) }
+    record { fits = omega (arith, loop .inv .0 .within, noted-below (loop .inv .1), few before) }
 
 loop-less-2 : tie.Need-loop-less-2 Inv-loop μ-loop
 loop-less-2 c =
-    let args : _ = c .before .before .before .before .before .before .before .before .before .before .before .before .before .before .before .before .before .before .args in
+    let before : _ = c .before .before .before .before .before .before .before .before .before .before .before .before in
     let loop : _ = c .before .before .before .before .before .before .before .before .before .before .before .loop in
     let step-on : _ = c .before .before .before .before .before .before .before .before .step-on in
-    let p : _ = on-written _ _ _ _ (ready (c .before .before .before)) _ _ _ (loop .inv .0) _ _ _ (step-on .ensures) _ (c .before .answer .given .1) in
-    let up : step-on .result .next .page ≡ suc (loop .place .page) = p .0 .up in
-    let inside : loop .place .page < pages (args .h) = p .0 .inside in
-    omega arith
+    let p : Passed (ready before) (loop .inv .0) (step-on .ensures) = on-written (ready before) (loop .inv .0) (step-on .ensures) (c .before .answer .given .1) .0 in
+    omega (arith, p .up, p .inside)
 
 loop-again-2 : tie.Need-loop-again-2 Inv-loop μ-loop
 loop-again-2 c =
-    let args : _ = c .before .before .before .before .before .before .before .before .before .before .before .before .before .before .before .before .before .before .args in
-    let counted : _ = c .before .before .before .before .before .before .before .before .before .before .before .before .before .pages in
-    let if1 : _ = c .before .before .before .before .before .before .before .before .before .before .before .before .if1 in
+    let before : _ = c .before .before .before .before .before .before .before .before .before .before .before .before in
     let loop : _ = c .before .before .before .before .before .before .before .before .before .before .before .loop in
     let step-on : _ = c .before .before .before .before .before .before .before .before .step-on in
-    let p : _ = on-written _ _ _ _ (ready (c .before .before .before)) _ _ _ (loop .inv .0) _ _ _ (step-on .ensures) _ (c .before .answer .given .1) in
-    let inside : loop .place .page < pages (args .h) = p .0 .inside in
-    let enough : pages (args .h) ≤ length (args .list .now) = omega (arith, counted .ensures, if1 .left) in
-    (p .0 .next, noted-written _ _ _ _ _ _ _ (loop .inv .1) _ (p .0 .up) _ (p .2) (p .1) (omega arith))
+    let p : Passed (ready before) (loop .inv .0) (step-on .ensures) × _ × _ = on-written (ready before) (loop .inv .0) (step-on .ensures) (c .before .answer .given .1) in
+    (p .0 .next, noted-written (loop .inv .1) (p .0 .up) (p .2) (p .1) (omega (arith, p .0 .inside, enough before)))
 
 pub store-on-spec : {M : Type 1} → statement M
 store-on-spec =

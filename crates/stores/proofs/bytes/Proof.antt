@@ -1,3 +1,5 @@
+-- `stores::bytes` meets its contract: every byte once.
+-- Assumes nothing.
 use Prim.Native.Nat.{_-_}
 use native.Mathlib.Omega.{arith}
 use lib.ListN.{length}

@@ -1,20 +1,22 @@
+-- `stores::load_page` meets its contract: the parts lent are inside the buffers.
+-- Assumes nothing.
 use mathlib.Core.Path.{sym}
 use lib.Seq.{length-take-le}
 use borrow.Author.Needs.{needs}
 use Rattle.stores.proofs.load_page.Statement.{statement}
 use Rattle.stores.proofs.load_page.Tie as tie
 
-returns : tie.Need-returns
-returns c = search needs
+within-requires : tie.Need-within-requires
+within-requires c κs = search needs
 
-returns-2 : tie.Need-returns-2
-returns-2 c = search needs
+within-requires-2 : tie.Need-within-requires-2
+within-requires-2 c κs = search needs
 
 slice-aggregate-ask-page : tie.Need-slice-aggregate-ask-page
-slice-aggregate-ask-page c = sym (length-take-le _ _ (c .before .before .if1 .left))
+slice-aggregate-ask-page c = sym (length-take-le _ _ (c .before .before .within .ensures))
 
 slice-aggregate-ask-page-2 : tie.Need-slice-aggregate-ask-page-2
-slice-aggregate-ask-page-2 c = sym (length-take-le _ _ (c .before .before .if2 .left))
+slice-aggregate-ask-page-2 c = sym (length-take-le _ _ (c .before .before .within2 .ensures))
 
 ask-page-requires : tie.Need-ask-page-requires
 ask-page-requires c κs = search needs
@@ -23,10 +25,10 @@ asked-requires : tie.Need-asked-requires
 asked-requires c κs = search needs
 
 slice-aggregate-load-page : tie.Need-slice-aggregate-load-page
-slice-aggregate-load-page c = sym (length-take-le _ _ (c .before .before .before .before .before .before .if1 .left))
+slice-aggregate-load-page c = sym (length-take-le _ _ (c .before .before .before .before .before .before .within .ensures))
 
 slice-aggregate-load-page-2 : tie.Need-slice-aggregate-load-page-2
-slice-aggregate-load-page-2 c = sym (length-take-le _ _ (c .before .before .before .before .before .before .if2 .left))
+slice-aggregate-load-page-2 c = sym (length-take-le _ _ (c .before .before .before .before .before .before .within2 .ensures))
 
 load-page-requires : tie.Need-load-page-requires
 load-page-requires c κs = search needs
@@ -34,15 +36,15 @@ load-page-requires c κs = search needs
 bytes-requires : tie.Need-bytes-requires
 bytes-requires c κs = search needs
 
-returns-3 : tie.Need-returns-3
-returns-3 c = search needs
+returns : tie.Need-returns
+returns c = search needs
 
 pub load-page-spec : {M : Type 1} → statement M
 load-page-spec =
     tie.close
     (tie.spec
-    returns
-    returns-2
+    within-requires
+    within-requires-2
     slice-aggregate-ask-page
     slice-aggregate-ask-page-2
     ask-page-requires
@@ -51,4 +53,4 @@ load-page-spec =
     slice-aggregate-load-page-2
     load-page-requires
     bytes-requires
-    returns-3)
+    returns)

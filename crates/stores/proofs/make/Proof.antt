@@ -1,23 +1,25 @@
+-- `stores::make` meets its contract: the parts lent are inside the buffers.
+-- Assumes nothing.
 use mathlib.Core.Path.{sym}
 use lib.Seq.{length-take-le}
 use borrow.Author.Needs.{needs}
 use Rattle.stores.proofs.make.Statement.{statement}
 use Rattle.stores.proofs.make.Tie as tie
 
-returns : tie.Need-returns
-returns c = search needs
+within-requires : tie.Need-within-requires
+within-requires c κs = search needs
 
-returns-2 : tie.Need-returns-2
-returns-2 c = search needs
+within-requires-2 : tie.Need-within-requires-2
+within-requires-2 c κs = search needs
 
 slice-aggregate-make : tie.Need-slice-aggregate-make
-slice-aggregate-make c = sym (length-take-le _ _ (c .before .before .if1 .left))
+slice-aggregate-make c = sym (length-take-le _ _ (c .before .before .within .ensures))
 
 slice-relend-prefix-make : tie.Need-slice-relend-prefix-make
 slice-relend-prefix-make c = search needs
 
 slice-aggregate-make-2 : tie.Need-slice-aggregate-make-2
-slice-aggregate-make-2 c = sym (length-take-le _ _ (c .before .before .if2 .left))
+slice-aggregate-make-2 c = sym (length-take-le _ _ (c .before .before .within2 .ensures))
 
 make-requires : tie.Need-make-requires
 make-requires c κs = search needs
@@ -31,15 +33,15 @@ bytes-requires c κs = search needs
 same-length : tie.Need-same-length
 same-length c = search needs
 
-returns-3 : tie.Need-returns-3
-returns-3 c = search needs
+returns : tie.Need-returns
+returns c = search needs
 
 pub make-spec : {M : Type 1} → statement M
 make-spec =
     tie.close
     (tie.spec
-    returns
-    returns-2
+    within-requires
+    within-requires-2
     slice-aggregate-make
     slice-relend-prefix-make
     slice-aggregate-make-2
@@ -47,4 +49,4 @@ make-spec =
     filled-requires
     bytes-requires
     same-length
-    returns-3)
+    returns)

@@ -1,3 +1,5 @@
+-- `stores::numbers` meets its contract: every number once.
+-- Assumes nothing.
 use Prim.Native.Nat.{_-_}
 use native.Mathlib.Omega.{arith}
 use lib.ListN.{length}

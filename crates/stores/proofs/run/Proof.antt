@@ -1,3 +1,5 @@
+-- `stores::run` meets its contract. The invariant: no buffer changes its length, and the place is inside the script.
+-- Assumes nothing.
 use mathlib.Core.Path.{_≡_, refl, _∙_}
 use Prim.Native.Nat.{_-_, _≤_}
 use native.Mathlib.Omega.{arith}
@@ -47,7 +49,8 @@ loop-again : tie.Need-loop-again Inv-loop μ-loop
 loop-again c =
     let loop : _ = c .before .before .before .before .before .before .before .before .before .before .before .before .before .before .before .before .before .loop in
     let command : _ = c .before .before .before .before .before .before .before .before .command in
-    (omega arith, command .kept .1 .1 .1 .1 .0 ∙ loop .inv .1, command .kept .1 .1 .1 .1 .1 .0 ∙ loop .inv .2, command .kept .1 .1 .1 .1 .1 .1 .0 ∙ loop .inv .3, command .kept .1 .1 .1 .1 .1 .1 .1 .0 ∙ loop .inv .4)
+    let kept : _ = command .kept .1 .1 .1 .1 in
+    (omega arith, kept .0 ∙ loop .inv .1, kept .1 .0 ∙ loop .inv .2, kept .1 .1 .0 ∙ loop .inv .3, kept .1 .1 .1 .0 ∙ loop .inv .4)
 
 same-length : tie.Need-same-length Inv-loop μ-loop
 same-length c = c .before .loop .inv .1

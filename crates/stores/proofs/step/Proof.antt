@@ -1,32 +1,34 @@
+-- `stores::step` meets its contract: the parts lent are inside the buffers.
+-- Assumes nothing.
 use mathlib.Core.Path.{sym}
 use lib.Seq.{length-take-le}
 use borrow.Author.Needs.{needs}
 use Rattle.stores.proofs.step.Statement.{statement}
 use Rattle.stores.proofs.step.Tie as tie
 
-returns : tie.Need-returns
-returns c = search needs
+within-requires : tie.Need-within-requires
+within-requires c κs = search needs
 
-returns-2 : tie.Need-returns-2
-returns-2 c = search needs
+within-requires-2 : tie.Need-within-requires-2
+within-requires-2 c κs = search needs
 
-returns-3 : tie.Need-returns-3
-returns-3 c = search needs
+within-requires-3 : tie.Need-within-requires-3
+within-requires-3 c κs = search needs
 
 slice-aggregate-step : tie.Need-slice-aggregate-step
-slice-aggregate-step c = sym (length-take-le _ _ (c .before .before .before .if1 .left))
+slice-aggregate-step c = sym (length-take-le _ _ (c .before .before .before .within .ensures))
 
 slice-relend-prefix-step : tie.Need-slice-relend-prefix-step
 slice-relend-prefix-step c = search needs
 
 slice-aggregate-step-2 : tie.Need-slice-aggregate-step-2
-slice-aggregate-step-2 c = sym (length-take-le _ _ (c .before .before .before .if2 .left))
+slice-aggregate-step-2 c = sym (length-take-le _ _ (c .before .before .before .within2 .ensures))
 
 slice-relend-prefix-step-2 : tie.Need-slice-relend-prefix-step-2
 slice-relend-prefix-step-2 c = search needs
 
 slice-aggregate-step-3 : tie.Need-slice-aggregate-step-3
-slice-aggregate-step-3 c = sym (length-take-le _ _ (c .before .before .before .if3 .left))
+slice-aggregate-step-3 c = sym (length-take-le _ _ (c .before .before .before .within3 .ensures))
 
 step-requires : tie.Need-step-requires
 step-requires c κs = search needs
@@ -52,16 +54,16 @@ same-length c = search needs
 same-length-2 : tie.Need-same-length-2
 same-length-2 c = search needs
 
-returns-4 : tie.Need-returns-4
-returns-4 c = search needs
+returns : tie.Need-returns
+returns c = search needs
 
 pub step-spec : {M : Type 1} → statement M
 step-spec =
     tie.close
     (tie.spec
-    returns
-    returns-2
-    returns-3
+    within-requires
+    within-requires-2
+    within-requires-3
     slice-aggregate-step
     slice-relend-prefix-step
     slice-aggregate-step-2
@@ -75,4 +77,4 @@ step-spec =
     bytes-requires-2
     same-length
     same-length-2
-    returns-4)
+    returns)

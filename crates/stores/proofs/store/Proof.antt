@@ -1,41 +1,43 @@
+-- `stores::store` meets its contract: the parts lent are inside the buffers.
+-- Assumes nothing.
 use mathlib.Core.Path.{sym}
 use lib.Seq.{length-take-le}
 use borrow.Author.Needs.{needs}
 use Rattle.stores.proofs.store.Statement.{statement}
 use Rattle.stores.proofs.store.Tie as tie
 
-returns : tie.Need-returns
-returns c = search needs
+within-requires : tie.Need-within-requires
+within-requires c κs = search needs
 
-returns-2 : tie.Need-returns-2
-returns-2 c = search needs
+within-requires-2 : tie.Need-within-requires-2
+within-requires-2 c κs = search needs
 
-returns-3 : tie.Need-returns-3
-returns-3 c = search needs
+within-requires-3 : tie.Need-within-requires-3
+within-requires-3 c κs = search needs
 
-returns-4 : tie.Need-returns-4
-returns-4 c = search needs
+within-requires-4 : tie.Need-within-requires-4
+within-requires-4 c κs = search needs
 
 slice-aggregate-store : tie.Need-slice-aggregate-store
-slice-aggregate-store c = sym (length-take-le _ _ (c .before .before .before .before .if1 .left))
+slice-aggregate-store c = sym (length-take-le _ _ (c .before .before .before .before .within .ensures))
 
 slice-relend-prefix-store : tie.Need-slice-relend-prefix-store
 slice-relend-prefix-store c = search needs
 
 slice-aggregate-store-2 : tie.Need-slice-aggregate-store-2
-slice-aggregate-store-2 c = sym (length-take-le _ _ (c .before .before .before .before .if2 .left))
+slice-aggregate-store-2 c = sym (length-take-le _ _ (c .before .before .before .before .within2 .ensures))
 
 slice-relend-prefix-store-2 : tie.Need-slice-relend-prefix-store-2
 slice-relend-prefix-store-2 c = search needs
 
 slice-aggregate-store-3 : tie.Need-slice-aggregate-store-3
-slice-aggregate-store-3 c = sym (length-take-le _ _ (c .before .before .before .before .if3 .left))
+slice-aggregate-store-3 c = sym (length-take-le _ _ (c .before .before .before .before .within3 .ensures))
 
 slice-relend-prefix-store-3 : tie.Need-slice-relend-prefix-store-3
 slice-relend-prefix-store-3 c = search needs
 
 slice-aggregate-store-4 : tie.Need-slice-aggregate-store-4
-slice-aggregate-store-4 c = sym (length-take-le _ _ (c .before .before .before .before .if4 .left))
+slice-aggregate-store-4 c = sym (length-take-le _ _ (c .before .before .before .before .within4 .ensures))
 
 store-requires : tie.Need-store-requires
 store-requires c κs = search needs
@@ -61,17 +63,17 @@ same-length-2 c = search needs
 same-length-3 : tie.Need-same-length-3
 same-length-3 c = search needs
 
-returns-5 : tie.Need-returns-5
-returns-5 c = search needs
+returns : tie.Need-returns
+returns c = search needs
 
 pub store-spec : {M : Type 1} → statement M
 store-spec =
     tie.close
     (tie.spec
-    returns
-    returns-2
-    returns-3
-    returns-4
+    within-requires
+    within-requires-2
+    within-requires-3
+    within-requires-4
     slice-aggregate-store
     slice-relend-prefix-store
     slice-aggregate-store-2
@@ -87,4 +89,4 @@ store-spec =
     same-length
     same-length-2
     same-length-3
-    returns-5)
+    returns)

@@ -1,3 +1,5 @@
+-- `units::put_part` meets its contract. The invariant: what is left to write gives what the whole gives.
+-- Assumes nothing.
 use mathlib.Core.List.{List, _∷_}
 use mathlib.Core.Path.{_≡_, refl, sym, ap, _∙_}
 use Prim.Native.Nat.{ℕ, _+_, _-_, _≤_, _<_}

@@ -1,3 +1,5 @@
+-- `store::Place::step` meets its contract: what opening refuses the step refuses, and else it is the step on the open backup.
+-- Assumes nothing.
 use mathlib.Core.Path.{ap₂, sym, ap, _∙_}
 use borrow.Author.Needs.{needs}
 use Rattle.units.specs.declared.Verdict.{Verdict}

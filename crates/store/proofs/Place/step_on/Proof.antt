@@ -1,3 +1,5 @@
+-- `store::Place::step_on` meets its contract: above the page count, at it, and below it.
+-- Assumes nothing.
 use mathlib.Core.Path.{_≡_, sym, _∙_}
 use Prim.Native.Nat.{_≤_, _<_}
 use native.Mathlib.Omega.{arith}
