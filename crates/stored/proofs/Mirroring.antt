@@ -5,17 +5,20 @@ use mathlib.Core.Path.{_≡_, refl, sym, ap, ap₂, _∙_, subst}
 use mathlib.Core.Logic.{_↔_, _≢_}
 use mathlib.Core.Bool.{Bool, true, false, not, cond}
 use mathlib.Core.List.{List, List·Memᴰ}
-use Prim.Native.Nat.{ℕ, _-_, _*_, _≤_, _<_, min}
-use native.Mathlib.Nat.{le-refl}
+use Prim.Native.Nat.{ℕ, _+_, _-_, _*_, _≤_, _<_, min}
+use native.Mathlib.Nat.{le-refl, zero-add}
 use native.Mathlib.Omega.{arith}
-use lib.ListN.{length}
-use borrow.Author.Tests.{not-true}
+use lib.ListN.{length, take, drop}
+use borrow.Author.Tests.{not-true, ltb-false}
 use Rattle.units.specs.Counts.{pagesIn}
 use Rattle.units.specs.Refusals.{first}
+use Rattle.units.specs.Writing.{written}
 use Rattle.units.specs.declared.Listed.the-variants.{Numbers}
 use Rattle.units.specs.declared.Verdict.{Verdict}
 use Rattle.units.specs.declared.Verdict.the-variants.{Allowed}
-use Rattle.units.proofs.Naming.{named-exactly, named-upward}
+use Rattle.units.proofs.Naming.{named-length, named-exactly, named-upward}
+use Rattle.units.proofs.Refusing.{Quiet, allowed-when}
+use Rattle.units.proofs.Writing.{written-inside, written-after}
 use Rattle.signature.specs.Kinds.{wide}
 use Rattle.signature.specs.Objects.{Octets, symbols}
 use Rattle.signature.specs.Operations.{own}
@@ -23,7 +26,7 @@ use Rattle.signature.proofs.EveryKind.{wide-sound, own-tells}
 use Rattle.map.specs.Buckets.{pageAt}
 use Rattle.map.specs.Files.{pages, file}
 use Rattle.map.specs.Making.{madeEntry, made}
-use Rattle.map.specs.Reading.{reading, entryAt}
+use Rattle.map.specs.Reading.{headerOf, reading, entryAt}
 use Rattle.map.specs.declared.Entry.{Entry}
 use Rattle.map.specs.declared.Header.{Header}
 use Rattle.map.specs.declared.Reading.the-variants.{Holds}
@@ -63,6 +66,28 @@ module _ (h : Header) (table image map list : List ℕ) (holds : reading map ≡
     where
       number : (a b : ℕ) → Numbers a ≡ Numbers b → a ≡ b
       number a b e = cc
+
+  -- ---- the list: the numbers stand at its start, and past them it is as it was
+
+  numbers-fit : 0 + length (changed h table (entryAt (h .n) map) (pages h)) ≤ length list
+  numbers-fit =
+      let q : Quiet (storeTests table image map list) = allowed-when (storeTests table image map list) .0 allowed in
+      let room : pages (headerOf map) ≤ length list = ltb-false _ _ (q .1 .1 .0) in
+      let enough : pages h ≤ length list = subst (λ (g : Header). pages g ≤ length list) (holds-header map h holds) room in
+      omega (arith, named-length (λ i. not (agrees h (entryAt (h .n) map) table i)) (pages h))
+
+  pub store-lists : take count (storing table image map list .list) ≡ changed h table (entryAt (h .n) map) (pages h)
+  store-lists =
+      ap₂ (λ (n : ℕ) (s : Stored). take n (s .list)) store-counts store-leaves
+      ∙ written-inside list 0 (changed h table (entryAt (h .n) map) (pages h)) numbers-fit
+
+  pub store-keeps-after : drop count (storing table image map list .list) ≡ drop count list
+  store-keeps-after =
+      let end : 0 + length (changed h table (entryAt (h .n) map) (pages h)) ≡ count = zero-add _ ∙ sym store-counts in
+      ap (λ (s : Stored). drop count (s .list)) store-leaves
+      ∙ ap (λ (n : ℕ). drop n (written list 0 (changed h table (entryAt (h .n) map) (pages h)))) (sym end)
+      ∙ written-after list 0 (changed h table (entryAt (h .n) map) (pages h)) numbers-fit
+      ∙ ap (λ (n : ℕ). drop n list) end
 
   -- ---- page by page and entry by entry, from what stood there: a store looks at the table and the entries only
 

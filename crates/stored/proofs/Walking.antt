@@ -25,7 +25,7 @@ use Rattle.store.specs.declared.Answer.the-variants.{Kept, Written, Finished}
 use Rattle.store.specs.declared.Place.{Place}
 use Rattle.store.specs.declared.Step.{Step}
 use Rattle.store.proofs.Underway.{Ready, Through, Passed, Done, taken, none-through, through-reads, through-length, step-opens}
-use Rattle.stored.specs.Walks.{Walk, writtenBy, walked, walkTo, outset}
+use Rattle.stored.specs.Walks.{Walk, Same, writtenBy, walked, walkTo, outset}
 use Rattle.stored.proofs.Mirroring.{store-usable, store-leaves, store-counts}
 
 module _ (h : Header) (table image map : List ℕ) (ready : Ready h table image map) where
@@ -77,14 +77,6 @@ module _ (h : Header) (table image map : List ℕ) (ready : Ready h table image 
   unfolding walked
   reached zero most = record { place-is = refl; through = none-through ready; numbers-are = sym (named-none _) }
   reached (suc m) most = on m (walked table (outset image map) m) (reached m (omega arith)) (omega arith)
-
--- what the whole store leaves, the walk has left when its next step says finished
-pub record Same (w : Walk) (table list : List ℕ) (count : ℕ) (whole : Stored) : Type 0 where
-  pub image-same : w .image ≡ whole .image
-  pub map-same : w .map ≡ whole .map
-  pub list-same : whole .list ≡ written list 0 (w .numbers)
-  pub count-same : count ≡ length (w .numbers)
-  pub finished : stepping table (w .image) (w .map) (w .place) .answer ≡ Finished
 
 pub steps-are-the-store : (h : Header) (table image map list : List ℕ) → Octets table → Octets map → reading map ≡ Holds h
     → (count : ℕ) → storing table image map list .answer ≡ Numbers count → Same (walked table (outset image map) (pages h)) table list count (storing table image map list)
