@@ -3,13 +3,15 @@
 
 demo: kit
 	@mkdir -p target
-	@echo "Proving and building the programs cases, maps and maplist (two minutes from nothing) .."
-	@rt check cases maps maplist > target/demo.log 2>&1 || { cat target/demo.log; exit 1; }
+	@echo "Proving and building the programs cases, maps, maplist and stores (three minutes from nothing) .."
+	@rt check cases maps maplist stores > target/demo.log 2>&1 || { cat target/demo.log; exit 1; }
 	@target/bin/cases
 	@echo "maps made"
 	@target/bin/maps
 	@echo "the map of case 12, listed"
 	@target/bin/maplist < runs/maplist/case-12.in
+	@echo "two flags of a page changed opposite ways, and stored"
+	@target/bin/stores < crates/stores/stdin
 
 test: kit
 	rt fmt --check

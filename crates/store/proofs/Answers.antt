@@ -42,22 +42,25 @@ store-one-answer κs a r s x y p q =
 
 -- ---- a step's refusals, and that these and finished change nothing
 
+pub page-told : (b : Bool) (k : ℕ) (r : Refusal) → cond b (Kept k) (Written k) ≡ Refused r → ⊥
+page-told true k r e = let z : _≡_ {A = ℕ} 0 1 = cc in omega arith
+page-told false k r e = let z : _≡_ {A = ℕ} 0 1 = cc in omega arith
+
+page-not-finished : (b : Bool) (k : ℕ) → cond b (Kept k) (Written k) ≡ Finished → ⊥
+page-not-finished true k e = let z : _≡_ {A = ℕ} 0 1 = cc in omega arith
+page-not-finished false k e = let z : _≡_ {A = ℕ} 0 1 = cc in omega arith
+
+pub finished-told : (r : Refusal) → Finished ≡ Refused r → ⊥
+finished-told r e = let z : _≡_ {A = ℕ} 0 1 = cc in omega arith
+
 module _ (h : Header) (table image map : List ℕ) (place : Place) where
-  page-told : (b : Bool) (k : ℕ) (r : Refusal) → cond b (Kept k) (Written k) ≡ Refused r → ⊥
-  page-told true k r e = let z : _≡_ {A = ℕ} 0 1 = cc in omega arith
-  page-told false k r e = let z : _≡_ {A = ℕ} 0 1 = cc in omega arith
-
-  page-not-finished : (b : Bool) (k : ℕ) → cond b (Kept k) (Written k) ≡ Finished → ⊥
-  page-not-finished true k e = let z : _≡_ {A = ℕ} 0 1 = cc in omega arith
-  page-not-finished false k e = let z : _≡_ {A = ℕ} 0 1 = cc in omega arith
-
   -- a step that its tests allow
   onward : Bool → Stepped
   onward b = cond b (staying Finished place image map) (passing h table image map (place .page))
 
   onward-told : (b : Bool) (r : Refusal) → onward b .answer ≡ Refused r → ⊥
   unfolding onward passing
-  onward-told true r e = let z : _≡_ {A = ℕ} 0 1 = cc in omega arith
+  onward-told true r e = finished-told r e
   onward-told false r e = page-told (agrees h (entryAt (h .n) map) table (place .page)) (place .page) r e
 
   onward-finished : (b : Bool) → onward b .answer ≡ Finished → onward b ≡ staying Finished place image map
@@ -99,7 +102,7 @@ module _ (table image map : List ℕ) (place : Place) where
 -- ---- a store's
 
 module _ (table image map list : List ℕ) where
-  store-told : (v : Verdict) (h : Header) (r : Refusal) → storeUnless v h table image map list .answer ≡ Listed.Refused r → v ≡ Verdict.Refused r
+  pub store-told : (v : Verdict) (h : Header) (r : Refusal) → storeUnless v h table image map list .answer ≡ Listed.Refused r → v ≡ Verdict.Refused r
   store-told Verdict.Allowed h r e = let z : _≡_ {A = ℕ} 0 1 = cc in absurd (omega arith)
   store-told (Verdict.Refused s) h r e = ap Verdict.Refused (same s r e)
     where

@@ -1,29 +1,39 @@
 -- Steps from place 0 to finished do what the whole store does, in image, map and pages written.
 -- Assumes nothing.
 use mathlib.Core.Path.{_≡_, refl, sym, ap, ap₂, _∙_, subst}
-use mathlib.Core.Logic.{⊎-elim}
+use mathlib.Core.Logic.{_≢_, ⊎-elim}
 use mathlib.Core.Bool.{Bool, true, false, not, cond}
 use mathlib.Core.List.{List, [], _∷_, _++_}
 use Prim.Native.Nat.{ℕ, zero, suc, _≤_, _<_}
 use native.Mathlib.Nat.{le-refl}
 use native.Mathlib.Omega.{arith}
+use lib.Dec.{ltb}
 use lib.ListN.{length}
+use Rattle.units.specs.Filling.{room}
 use Rattle.units.specs.Naming.{named}
+use Rattle.units.specs.Refusals.{Test, first, gives, ROOM, PAGENO}
 use Rattle.units.specs.Writing.{written}
 use Rattle.units.specs.declared.Listed.the-variants.{Numbers}
+use Rattle.units.specs.declared.Listed.the-variants as Listed
+use Rattle.units.specs.declared.Refusal.{Refusal}
+use Rattle.units.specs.declared.Verdict.{Verdict}
+use Rattle.units.specs.declared.Verdict.the-variants as Verdict
 use Rattle.units.proofs.Naming.{named-none}
+use Rattle.units.proofs.Refusing.{allowed-not-refused}
 use Rattle.signature.specs.Objects.{Octets}
 use Rattle.map.specs.Files.{pages}
-use Rattle.map.specs.Reading.{reading, entryAt}
+use Rattle.map.specs.Reading.{headerOf, reading, entryAt}
 use Rattle.map.specs.declared.Header.{Header}
 use Rattle.map.specs.declared.Reading.the-variants.{Holds}
 use Rattle.backup.specs.Backups.{agrees, changed}
+use Rattle.backup.specs.Openings.{mapTest, matchTest}
 use Rattle.backup.proofs.Opened.{Usable}
-use Rattle.store.specs.Steps.{openStep, stepping}
-use Rattle.store.specs.Stores.{Stored, storing}
-use Rattle.store.specs.declared.Answer.the-variants.{Kept, Written, Finished}
+use Rattle.store.specs.Steps.{stepUnless, openStep, stepping}
+use Rattle.store.specs.Stores.{Stored, storeTests, storing}
+use Rattle.store.specs.declared.Answer.the-variants.{Kept, Written, Finished, Refused}
 use Rattle.store.specs.declared.Place.{Place}
 use Rattle.store.specs.declared.Step.{Step}
+use Rattle.store.proofs.Answers.{page-told, finished-told, store-told}
 use Rattle.store.proofs.Underway.{Ready, Through, Passed, Done, taken, none-through, through-reads, through-length, step-opens}
 use Rattle.stored.specs.Walks.{Walk, Same, writtenBy, walked, walkTo, outset}
 use Rattle.stored.proofs.Mirroring.{store-usable, store-leaves, store-counts}
@@ -73,6 +83,13 @@ module _ (h : Header) (table image map : List ℕ) (ready : Ready h table image 
         (λ (d : Done ready (r .through) {s = step} opens). d .told)
         (taken ready (r .through) {s = step} opens)
 
+    allowed : (why : Refusal) → stepping table (w .image) (w .map) (w .place) .answer ≡ Refused why → ⊥
+    allowed why e =
+        ⊎-elim
+        (λ (p : Passed ready (r .through) {s = step} opens). page-told (agrees h (entryAt (h .n) map) table m) m why (sym (p .told) ∙ e))
+        (λ (d : Done ready (r .through) {s = step} opens). finished-told why (sym (d .told) ∙ e))
+        (taken ready (r .through) {s = step} opens)
+
   reached : (m : ℕ) → m ≤ pages h → Reached m (walked table (outset image map) m)
   unfolding walked
   reached zero most = record { place-is = refl; through = none-through ready; numbers-are = sym (named-none _) }
@@ -94,3 +111,40 @@ steps-are-the-store h table image map list table-octets map-octets holds count a
       count-same = store-counts h table image map list holds count answer ∙ ap length (sym (r .numbers-are));
       finished = ends h table image map ready (pages h) w r refl;
     }
+
+-- ---- a step that is refused can only be the first, before a byte has changed
+
+-- where the store is not refused, no step up to finished is
+pub no-step-refused : (h : Header) (table image map list : List ℕ) → Octets table → Octets map → reading map ≡ Holds h
+    → (count : ℕ) → storing table image map list .answer ≡ Numbers count
+    → (m : ℕ) → m ≤ pages h → (why : Refusal)
+    → stepping table (walked table (outset image map) m .image) (walked table (outset image map) m .map) (walked table (outset image map) m .place) .answer ≢ Refused why
+no-step-refused h table image map list table-octets map-octets holds count answer m most why =
+    let u : Usable (length table) (length image) map h = store-usable h table image map list holds count answer in
+    let ready : Ready h table image map =
+    record { table-octets = table-octets; map-octets = map-octets; holds = holds; table-length = u .one-fits; image-length = u .other-fits } in
+    allowed h table image map ready m (walked table (outset image map) m) (reached h table image map ready m most) why
+
+-- the third of three tests does not decide
+first-two : (t u v w : Test) (r : Refusal) → first (t ∷ u ∷ v ∷ []) ≡ Verdict.Refused r → (v .refusal ≡ r → ⊥) → first (t ∷ u ∷ w ∷ []) ≡ Verdict.Refused r
+first-two t u v w r e other = at (t .applies) (u .applies) (v .applies) refl refl refl
+  where
+    same : (a b : Refusal) → Verdict.Refused a ≡ Verdict.Refused b → a ≡ b
+    same a b q = cc
+
+    at : (a b d : Bool) → t .applies ≡ a → u .applies ≡ b → v .applies ≡ d → first (t ∷ u ∷ w ∷ []) ≡ Verdict.Refused r
+    at true b d p q z = simp p (simp p at e)
+    at false true d p q z = simp (p, q) (simp (p, q) at e)
+    at false false true p q z = absurd (other (same (v .refusal) r (simp (p, q, z) at e)))
+    at false false false p q z = absurd (allowed-not-refused r (simp (p, q, z) at e))
+
+-- and where it is refused for anything but the list's room, the first step is refused with the same
+pub first-step-refused : (table image map list : List ℕ) (r : Refusal) → storing table image map list .answer ≡ Listed.Refused r → (r .number ≡ ROOM → ⊥)
+    → stepping table image map (record { page = 0 }) .answer ≡ Refused r
+unfolding storing stepping
+first-step-refused table image map list r e other =
+    let h : Header = headerOf map in
+    let why : first (storeTests table image map list) ≡ Verdict.Refused r = store-told table image map list (first (storeTests table image map list)) h r e in
+    ap (λ (v : Verdict). stepUnless v h table image map (record { page = 0 }) .answer)
+    (first-two (mapTest map) (matchTest (length table) (length image) h) (room (pages h) list) (gives PAGENO (ltb (pages h) 0)) r why
+    (λ q. other (sym (ap (λ (x : Refusal). x .number) q))))
