@@ -1,6 +1,6 @@
 -- What is known when a backup opens, and when it does not: the map's reading decides, then the lengths, then the operation's own tests.
 -- Assumes nothing.
-use mathlib.Core.Path.{_≡_, refl, sym, ap, _∙_, subst}
+use mathlib.Core.Path.{_≡_, refl, sym, ap, ap₂, _∙_, subst}
 use mathlib.Core.Bool.{false}
 use mathlib.Core.List.{List, [], _∷_}
 use Prim.Native.Nat.{ℕ}
@@ -88,3 +88,13 @@ module _ (one other : ℕ) (map : List ℕ) where
   holds-usable h holds one-fits other-fits =
       let so : opened (first (matchTest one other h ∷ [])) h ≡ Open h = simp (eq-eqb _ _ one-fits, eq-eqb _ _ other-fits) in
       open-usable h (open-holds one other map h holds ∙ so)
+
+-- ---- an operation that begins by opening: its answer, f, by its own tests and the header
+
+module _ {A : Type 0} (f : Verdict → Header → A) (own : Header → List Test) (one other : ℕ) (map : List ℕ) where
+  pub refused-as : (r : Refusal) → opening one other map ≡ Refused r
+      → f (first (openTests one other map (own (headerOf map)))) (headerOf map) ≡ f (Verdict.Refused r) (headerOf map)
+  refused-as r e = ap (λ (v : Verdict). f v (headerOf map)) (open-refused one other map r e (own (headerOf map)))
+
+  pub opened-as : (h : Header) → opening one other map ≡ Open h → f (first (openTests one other map (own (headerOf map)))) (headerOf map) ≡ f (first (own h)) h
+  opened-as h e = let u : Usable one other map h = open-usable one other map h e in ap₂ f (u .rest own) (holds-header map h (u .holds))

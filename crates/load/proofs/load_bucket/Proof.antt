@@ -1,12 +1,11 @@
 -- `load::load_bucket` meets its contract: what opening refuses the load refuses, and else the tests of the bucket decide.
 -- Assumes nothing.
-use mathlib.Core.Path.{sym, ap, _∙_}
+use mathlib.Core.Path.{sym, _∙_}
 use lib.ListN.{length}
 use borrow.Author.Needs.{needs}
 use Rattle.units.specs.Filling.{outcome}
-use Rattle.units.specs.declared.Verdict.{Verdict}
-use Rattle.map.specs.Reading.{headerOf}
-use Rattle.backup.proofs.Opened.{Usable, open-usable, open-refused}
+use Rattle.map.specs.declared.Header.{Header}
+use Rattle.backup.proofs.Opened.{refused-as, opened-as, Usable, open-usable}
 use Rattle.load.specs.Loads.{loading, openLoad, bucketTests}
 use Rattle.load.proofs.load_bucket.Statement.{statement}
 use Rattle.load.proofs.load_bucket.Tie as tie
@@ -31,8 +30,8 @@ unfolding loading
 returns c =
     let opens : _ = c .before .before .before .«open» in
     let args : _ = c .before .before .before .before .before .before .before .args in
-    sym (ap (λ (v : Verdict). outcome v (length (args .image .now)) (args .image .now) (args .table .now))
-    (open-refused _ _ _ (c .before .opening .given .0 .0) (sym (opens .ensures) ∙ c .before .opening .given .1) (bucketTests (headerOf (args .map .now)) (args .image .now) (args .map .now))))
+    sym (refused-as (λ v (g : Header). outcome v (length (args .image .now)) (args .image .now) (args .table .now))
+    (λ g. bucketTests g (args .image .now) (args .map .now)) _ _ _ _ (sym (opens .ensures) ∙ c .before .opening .given .1))
 
 same-length : tie.Need-same-length
 same-length c = search needs
@@ -43,9 +42,9 @@ returns-2 c =
     let opens : _ = c .before .before .before .before .before .before .before .«open» in
     let opening2 : _ = c .before .before .before .before .before .opening2 in
     let args : _ = c .before .before .before .before .before .before .before .before .before .before .before .args in
-    let u : Usable _ _ _ (opening2 .given .0 .0) = open-usable _ _ _ _ (sym (opens .ensures) ∙ opening2 .given .1) in
     c .before .before .move-bucket .ensures
-    ∙ ap (λ (v : Verdict). outcome v (length (args .image .now)) (args .image .now) (args .table .now)) (sym (u .rest (λ g. bucketTests g (args .image .now) (args .map .now))))
+    ∙ sym (opened-as (λ v (g : Header). outcome v (length (args .image .now)) (args .image .now) (args .table .now))
+    (λ g. bucketTests g (args .image .now) (args .map .now)) _ _ _ _ (sym (opens .ensures) ∙ opening2 .given .1))
 
 pub load-bucket-spec : {M : Type 1} → statement M
 load-bucket-spec =

@@ -1,22 +1,19 @@
 -- `load::open_page` meets its contract: each return is the definition at the tests that led there.
 -- Assumes nothing.
 use mathlib.Core.Bool.{true, false}
-use mathlib.Core.Path.{_≡_, sym, ap, ap₂, _∙_}
+use mathlib.Core.Path.{_≡_, sym, _∙_}
 use Prim.Native.Nat.{_≤_, _<_}
 use native.Mathlib.Omega.{arith}
 use borrow.Author.Tests.{le-leb, lt-leb, not-true, not-false}
 use borrow.Author.Needs.{needs}
 use Rattle.units.specs.Refusals.{first}
-use Rattle.units.specs.declared.Verdict.{Verdict}
-use Rattle.units.specs.declared.Verdict.the-variants.{Allowed}
-use Rattle.units.specs.declared.Verdict.the-variants as Verdict
 use Rattle.map.specs.Files.{pages}
-use Rattle.map.specs.Reading.{headerOf, entryAt}
+use Rattle.map.specs.Reading.{entryAt}
 use Rattle.map.specs.declared.Header.{Header}
-use Rattle.map.proofs.Holding.{holds-header}
 use Rattle.backup.specs.Backups.{agrees}
 use Rattle.backup.specs.Openings.{opened}
-use Rattle.backup.proofs.Opened.{Usable, open-usable, open-refused}
+use Rattle.backup.specs.declared.Opening.the-variants.{Open, Refused}
+use Rattle.backup.proofs.Opened.{refused-as, opened-as}
 use Rattle.load.specs.Loads.{asking, pageTests}
 use Rattle.load.proofs.open_page.Statement.{statement}
 use Rattle.load.proofs.open_page.Tie as tie
@@ -34,10 +31,7 @@ returns : tie.Need-returns
 unfolding asking
 returns c =
     let args : _ = c .before .before .before .before .before .args in
-    c .enum-told .given .1
-    ∙ sym (ap (λ (v : Verdict). opened v (headerOf (args .map .now)))
-    (open-refused _ _ _ (c .enum-told .given .0 .0) (sym (c .before .before .«open» .ensures) ∙ c .enum-told .given .1)
-    (pageTests (headerOf (args .map .now)) (args .image .now) (args .map .now) (args .k))))
+    c .enum-told .given .1 ∙ sym (refused-as opened (λ g. pageTests g (args .image .now) (args .map .now) (args .k)) _ _ _ _ (sym (c .before .before .«open» .ensures) ∙ c .enum-told .given .1))
 
 pages-requires : tie.Need-pages-requires
 pages-requires c κs = search needs
@@ -49,10 +43,9 @@ returns-2 c =
     let opening : _ = c .before .before .before .opening in
     let args : _ = c .before .before .before .before .before .before .before .before .args in
     let h : Header = opening .given .0 .0 in
-    let u : Usable _ _ _ h = open-usable _ _ _ _ (sym (opens .ensures) ∙ opening .given .1) in
     let past : pages h ≤ args .k = omega (arith, c .before .pages .ensures) in
-    let so : first (pageTests h (args .image .now) (args .map .now) (args .k)) ≡ Verdict.Refused (record { number = 9; value = 0 }) = simp (le-leb _ _ past) in
-    sym (ap (λ (v : Verdict). opened v (headerOf (args .map .now))) (u .rest (λ g. pageTests g (args .image .now) (args .map .now) (args .k)) ∙ so))
+    let so : opened (first (pageTests h (args .image .now) (args .map .now) (args .k))) h ≡ Refused (record { number = 9; value = 0 }) = simp (le-leb _ _ past) in
+    sym (opened-as opened (λ g. pageTests g (args .image .now) (args .map .now) (args .k)) _ _ _ _ (sym (opens .ensures) ∙ opening .given .1) ∙ so)
 
 whole-requires : tie.Need-whole-requires
 whole-requires c κs = search needs
@@ -65,11 +58,10 @@ returns-3 c =
     let counted : _ = c .before .before .before .pages in
     let args : _ = c .before .before .before .before .before .before .before .before .before .before .args in
     let h : Header = opening .given .0 .0 in
-    let u : Usable _ _ _ h = open-usable _ _ _ _ (sym (opens .ensures) ∙ opening .given .1) in
     let inside : args .k < pages h = omega (arith, counted .ensures, c .before .before .if1 .left) in
     let bad : agrees h (entryAt (h .n) (args .map .now)) (args .image .now) (args .k) ≡ false = sym (c .before .whole .ensures) ∙ not-true _ (c .if2 .taken) in
-    let so : first (pageTests h (args .image .now) (args .map .now) (args .k)) ≡ Verdict.Refused (record { number = 10; value = args .k }) = simp (lt-leb _ _ inside, bad) in
-    sym (ap (λ (v : Verdict). opened v (headerOf (args .map .now))) (u .rest (λ g. pageTests g (args .image .now) (args .map .now) (args .k)) ∙ so))
+    let so : opened (first (pageTests h (args .image .now) (args .map .now) (args .k))) h ≡ Refused (record { number = 10; value = args .k }) = simp (lt-leb _ _ inside, bad) in
+    sym (opened-as opened (λ g. pageTests g (args .image .now) (args .map .now) (args .k)) _ _ _ _ (sym (opens .ensures) ∙ opening .given .1) ∙ so)
 
 returns-4 : tie.Need-returns-4
 unfolding asking
@@ -79,11 +71,10 @@ returns-4 c =
     let counted : _ = c .before .before .before .pages in
     let args : _ = c .before .before .before .before .before .before .before .before .before .before .args in
     let h : Header = opening .given .0 .0 in
-    let u : Usable _ _ _ h = open-usable _ _ _ _ (sym (opens .ensures) ∙ opening .given .1) in
     let inside : args .k < pages h = omega (arith, counted .ensures, c .before .before .if1 .left) in
     let good : agrees h (entryAt (h .n) (args .map .now)) (args .image .now) (args .k) ≡ true = sym (c .before .whole .ensures) ∙ not-false _ (c .if2 .left) in
-    let so : first (pageTests h (args .image .now) (args .map .now) (args .k)) ≡ Allowed = simp (lt-leb _ _ inside, good) in
-    sym (ap₂ opened (u .rest (λ g. pageTests g (args .image .now) (args .map .now) (args .k)) ∙ so) (holds-header _ _ (u .holds)))
+    let so : opened (first (pageTests h (args .image .now) (args .map .now) (args .k))) h ≡ Open h = simp (lt-leb _ _ inside, good) in
+    sym (opened-as opened (λ g. pageTests g (args .image .now) (args .map .now) (args .k)) _ _ _ _ (sym (opens .ensures) ∙ opening .given .1) ∙ so)
 
 pub open-page-spec : {M : Type 1} → statement M
 open-page-spec =

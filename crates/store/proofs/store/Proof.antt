@@ -1,12 +1,8 @@
 -- `store::store` meets its contract: what opening refuses the store refuses, and else it is the store on the open backup.
 -- Assumes nothing.
-use mathlib.Core.Path.{sym, ap, ap₂, _∙_}
+use mathlib.Core.Path.{sym, _∙_}
 use borrow.Author.Needs.{needs}
-use Rattle.units.specs.declared.Verdict.{Verdict}
-use Rattle.map.specs.Reading.{headerOf}
-use Rattle.map.specs.declared.Header.{Header}
-use Rattle.map.proofs.Holding.{holds-header}
-use Rattle.backup.proofs.Opened.{Usable, open-usable, open-refused}
+use Rattle.backup.proofs.Opened.{refused-as, opened-as, Usable, open-usable}
 use Rattle.store.specs.Stores.{openStore, storing, storeUnless, listTests}
 use Rattle.store.proofs.store.Statement.{statement}
 use Rattle.store.proofs.store.Tie as tie
@@ -35,8 +31,8 @@ unfolding storing
 returns c =
     let opens : _ = c .before .before .before .«open» in
     let args : _ = c .before .before .before .before .before .before .before .before .before .args in
-    sym (ap (λ (v : Verdict). storeUnless v (headerOf (args .map .now)) (args .table .now) (args .image .now) (args .map .now) (args .list .now))
-    (open-refused _ _ _ (c .before .opening .given .0 .0) (sym (opens .ensures) ∙ c .before .opening .given .1) (listTests (headerOf (args .map .now)) (args .list .now))))
+    sym (refused-as (λ v g. storeUnless v g (args .table .now) (args .image .now) (args .map .now) (args .list .now))
+    (λ g. listTests g (args .list .now)) _ _ _ _ (sym (opens .ensures) ∙ c .before .opening .given .1))
 
 same-length-2 : tie.Need-same-length-2
 same-length-2 c = search needs
@@ -54,10 +50,9 @@ returns-2 c =
     let opening2 : _ = c .before .before .before .before .before .before .before .before .before .before .before .opening2 in
     let store-on : _ = c .before .before .before .before .before .before .store-on in
     let args : _ = c .before .before .before .before .before .before .before .before .before .before .before .before .before .before .before .before .before .before .before .args in
-    let u : Usable _ _ _ (opening2 .given .0 .0) = open-usable _ _ _ _ (sym (opens .ensures) ∙ opening2 .given .1) in
     store-on .ensures
-    ∙ ap₂ (λ (v : Verdict) (g : Header). storeUnless v g (args .table .now) (args .image .now) (args .map .now) (args .list .now))
-    (sym (u .rest (λ g. listTests g (args .list .now)))) (sym (holds-header _ _ (u .holds)))
+    ∙ sym (opened-as (λ v g. storeUnless v g (args .table .now) (args .image .now) (args .map .now) (args .list .now))
+    (λ g. listTests g (args .list .now)) _ _ _ _ (sym (opens .ensures) ∙ opening2 .given .1))
 
 pub store-spec : {M : Type 1} → statement M
 store-spec =

@@ -1,12 +1,8 @@
 -- `store::Place::step` meets its contract: what opening refuses the step refuses, and else it is the step on the open backup.
 -- Assumes nothing.
-use mathlib.Core.Path.{ap₂, sym, ap, _∙_}
+use mathlib.Core.Path.{sym, _∙_}
 use borrow.Author.Needs.{needs}
-use Rattle.units.specs.declared.Verdict.{Verdict}
-use Rattle.map.specs.Reading.{headerOf}
-use Rattle.map.specs.declared.Header.{Header}
-use Rattle.map.proofs.Holding.{holds-header}
-use Rattle.backup.proofs.Opened.{Usable, open-usable, open-refused}
+use Rattle.backup.proofs.Opened.{refused-as, opened-as, Usable, open-usable}
 use Rattle.store.specs.Steps.{openStep, stepping, stepUnless, placeTests}
 use Rattle.store.proofs.Place.step.Statement.{statement}
 use Rattle.store.proofs.Place.step.Tie as tie
@@ -35,8 +31,8 @@ unfolding stepping
 returns c =
     let opens : _ = c .before .before .before .«open» in
     let args : _ = c .before .before .before .before .before .before .before .before .args in
-    sym (ap (λ (v : Verdict). stepUnless v (headerOf (args .map .now)) (args .table .now) (args .image .now) (args .map .now) (args .self))
-    (open-refused _ _ _ (c .before .opening .given .0 .0) (sym (opens .ensures) ∙ c .before .opening .given .1) (placeTests (headerOf (args .map .now)) (args .self .page))))
+    sym (refused-as (λ v g. stepUnless v g (args .table .now) (args .image .now) (args .map .now) (args .self))
+    (λ g. placeTests g (args .self .page)) _ _ _ _ (sym (opens .ensures) ∙ c .before .opening .given .1))
 
 same-length-2 : tie.Need-same-length-2
 same-length-2 c = search needs
@@ -51,10 +47,9 @@ returns-2 c =
     let opening2 : _ = c .before .before .before .before .before .before .before .before .opening2 in
     let step-on : _ = c .before .before .before .before .step-on in
     let args : _ = c .before .before .before .before .before .before .before .before .before .before .before .before .before .before .before .args in
-    let u : Usable _ _ _ (opening2 .given .0 .0) = open-usable _ _ _ _ (sym (opens .ensures) ∙ opening2 .given .1) in
     step-on .ensures
-    ∙ ap₂ (λ (v : Verdict) (g : Header). stepUnless v g (args .table .now) (args .image .now) (args .map .now) (args .self))
-    (sym (u .rest (λ g. placeTests g (args .self .page)))) (sym (holds-header _ _ (u .holds)))
+    ∙ sym (opened-as (λ v g. stepUnless v g (args .table .now) (args .image .now) (args .map .now) (args .self))
+    (λ g. placeTests g (args .self .page)) _ _ _ _ (sym (opens .ensures) ∙ opening2 .given .1))
 
 pub step-spec : {M : Type 1} → statement M
 step-spec =
