@@ -4,6 +4,7 @@ use mathlib.Core.List.{List}
 use mathlib.Core.Bool.{true, false}
 use mathlib.Core.Path.{_≡_, sym, ap, ap₂, _∙_}
 use Prim.Native.Nat.{ℕ, _+_, _-_, _*_, _≤_, _<_, min}
+use native.Mathlib.Nat.{mul-le-mul, lt-of-le-of-lt}
 use native.Mathlib.Omega.{arith}
 use native.Mathlib.Numerals.{add-one}
 use lib.ListN.{length}
@@ -19,6 +20,7 @@ use Rattle.map.specs.Making.{madeEntry}
 use Rattle.map.specs.Reading.{entryAt}
 use Rattle.map.proofs.Contents.{Sized}
 use Rattle.map.proofs.Holding.{holds-sized}
+use Rattle.map.proofs.MadeMaps.{page-most}
 use Rattle.backup.specs.Backups.{agrees}
 use Rattle.backup.proofs.Bounds.{few-pages, page-starts, short-bucket}
 use Rattle.backup.proofs.Pages.{page-length}
@@ -67,9 +69,10 @@ mul-at c =
     let pre : _ = c .before .before .before .before .before .before .before .before .before .before .pre in
     let args : _ = c .before .before .before .before .before .before .before .before .before .before .args in
     let sized : Sized (args .h) = holds-sized _ (args .h) (pre .0) in
-    let starts : args .k * args .h .page .count < args .h .bucket .count = page-starts (args .h) sized (args .k) (pre .3) in
+    let few : args .k ≤ 4096 = omega (arith, few-pages (args .h) sized, pre .3) in
+    let most : args .h .page .count ≤ 65536 = page-most (args .h .page .count) (sized .page-fits) in
     let short : args .h .bucket .count ≤ 16777216 = short-bucket (args .h) sized in
-    record { fits = omega arith }
+    record { fits = lt-of-le-of-lt (mul-le-mul {m₂ = 16777216} few (omega (arith, most, short, pre .1))) (omega arith) }
 
 put-part-requires : tie.Need-put-part-requires
 put-part-requires c κs = search needs
