@@ -13,12 +13,14 @@ due-requires c κs = search needs
 
 returns : tie.Need-returns
 returns c =
-    let no : isDue (c .before .before .before .args .tag) (fieldAt 0 (c .before .before .before .args .map .now) (c .before .before .before .args .at)) ≡ false = sym (c .before .due .ensures) ∙ not-true _ (c .if1 .taken) in
+    let args : _ = c .before .before .before .args in
+    let no : isDue (args .tag) (fieldAt 0 (args .map .now) (args .at)) ≡ false = sym (c .before .due .ensures) ∙ not-true _ (c .if1 .taken) in
     simp no
 
 returns-2 : tie.Need-returns-2
 returns-2 c =
-    let yes : isDue (c .before .before .before .args .tag) (fieldAt 0 (c .before .before .before .args .map .now) (c .before .before .before .args .at)) ≡ true = sym (c .before .due .ensures) ∙ not-false _ (c .if1 .left) in
+    let args : _ = c .before .before .before .args in
+    let yes : isDue (args .tag) (fieldAt 0 (args .map .now) (args .at)) ≡ true = sym (c .before .due .ensures) ∙ not-false _ (c .if1 .left) in
     simp yes
 
 pub kept-spec : {M : Type 1} → statement M
