@@ -1,11 +1,12 @@
 -- The first number that a test names: it is named, and none before it is.
 -- Assumes nothing.
-use mathlib.Core.Path.{_≡_, refl, sym, ap, _∙_}
+use mathlib.Core.Path.{_≡_, refl, ap, _∙_}
 use mathlib.Core.Logic.{dite}
 use mathlib.Core.Bool.{Bool, true, false}
 use Prim.Native.Nat.{ℕ, zero, suc, _+_, _≤_, _<_}
 use native.Mathlib.Decide.{decLt, ℕ-discrete}
 use native.Mathlib.Omega.{arith}
+use Rattle.units.proofs.Refusing.{not-both}
 use Rattle.load.specs.Loads.{firstNamed}
 
 module _ (test : ℕ → Bool) where
@@ -36,11 +37,8 @@ module _ (test : ℕ → Bool) where
   pub first-before : (m k i : ℕ) → k ≤ i → i < k + m → test i ≡ true → firstNamed test m k ≤ i
   first-before m k i low high named =
       dite (decLt i (firstNamed test m k))
-      (λ (past : i < firstNamed test m k). absurd (false-not-true (sym (first-lowest m k i low past) ∙ named)))
+      (λ (past : i < firstNamed test m k). absurd (not-both (test i) named (first-lowest m k i low past)))
       (λ up. omega arith)
-    where
-      false-not-true : false ≡ true → ⊥
-      false-not-true e = let z : _≡_ {A = ℕ} 0 1 = cc in omega arith
 
   -- where there is one, it is named
   pub first-named : (m k : ℕ) → firstNamed test m k < k + m → test (firstNamed test m k) ≡ true

@@ -22,9 +22,10 @@ use Rattle.map.specs.declared.Header.{Header}
 use Rattle.backup.specs.Backups.{agrees}
 use Rattle.store.specs.Steps.{Stepped, staying, passing, stepUnless, stepTests, stepping}
 use Rattle.store.specs.Stores.{storedOf, storeUnless, storeTests, storing}
-use Rattle.store.specs.declared.Answer.the-variants.{Kept, Written, Finished, Refused}
+use Rattle.store.specs.declared.Answer.the-variants.{Finished, Refused}
 use Rattle.store.specs.declared.Place.{Place}
 use Rattle.store.specs.declared.Step.{Step}
+use Rattle.store.proofs.Tags.{told-not-refused, told-not-finished, finished-not-refused}
 use Rattle.store.proofs.Place.step.Reads as step
 use Rattle.store.proofs.store.Reads as store
 
@@ -42,17 +43,6 @@ store-one-answer κs a r s x y p q =
 
 -- ---- a step's refusals, and that these and finished change nothing
 
-pub page-told : (b : Bool) (k : ℕ) (r : Refusal) → cond b (Kept k) (Written k) ≡ Refused r → ⊥
-page-told true k r e = let z : _≡_ {A = ℕ} 0 1 = cc in omega arith
-page-told false k r e = let z : _≡_ {A = ℕ} 0 1 = cc in omega arith
-
-page-not-finished : (b : Bool) (k : ℕ) → cond b (Kept k) (Written k) ≡ Finished → ⊥
-page-not-finished true k e = let z : _≡_ {A = ℕ} 0 1 = cc in omega arith
-page-not-finished false k e = let z : _≡_ {A = ℕ} 0 1 = cc in omega arith
-
-pub finished-told : (r : Refusal) → Finished ≡ Refused r → ⊥
-finished-told r e = let z : _≡_ {A = ℕ} 0 1 = cc in omega arith
-
 module _ (h : Header) (table image map : List ℕ) (place : Place) where
   -- a step that its tests allow
   onward : Bool → Stepped
@@ -60,13 +50,13 @@ module _ (h : Header) (table image map : List ℕ) (place : Place) where
 
   onward-told : (b : Bool) (r : Refusal) → onward b .answer ≡ Refused r → ⊥
   unfolding onward passing
-  onward-told true r e = finished-told r e
-  onward-told false r e = page-told (agrees h (entryAt (h .n) map) table (place .page)) (place .page) r e
+  onward-told true r e = finished-not-refused r e
+  onward-told false r e = told-not-refused (place .page) (agrees h (entryAt (h .n) map) table (place .page)) r e
 
   onward-finished : (b : Bool) → onward b .answer ≡ Finished → onward b ≡ staying Finished place image map
   unfolding onward passing
   onward-finished true e = refl
-  onward-finished false e = absurd (page-not-finished (agrees h (entryAt (h .n) map) table (place .page)) (place .page) e)
+  onward-finished false e = absurd (told-not-finished (place .page) (agrees h (entryAt (h .n) map) table (place .page)) e)
 
   step-told : (v : Verdict) (r : Refusal) → stepUnless v h table image map place .answer ≡ Refused r → v ≡ Verdict.Refused r
   unfolding onward

@@ -1,7 +1,7 @@
 -- One page of a store in the map's bytes: a kept page changes nothing, and a written one its bytes in the image and its entry in the map.
 -- Assumes nothing.
 use mathlib.Core.Path.{_≡_, sym, ap, ap₂, _∙_}
-use mathlib.Core.Bool.{Bool, true, false, cond}
+use mathlib.Core.Bool.{Bool, true, false}
 use mathlib.Core.List.{List}
 use Prim.Native.Nat.{ℕ, suc, _*_, _<_}
 use Rattle.units.specs.Writing.{written}
@@ -18,7 +18,7 @@ use Rattle.map.proofs.Readback.{file-of-reading}
 use Rattle.backup.specs.Backups.{Backup, backupIn, agrees, pageWritten}
 use Rattle.backup.proofs.Entered.{replaced, entry-put-file}
 use Rattle.backup.proofs.Storing.{page-kept, page-written}
-use Rattle.store.specs.Steps.{Stepped, passedTo, passing}
+use Rattle.store.specs.Steps.{Stepped, pageAnswer, passedTo, passing}
 use Rattle.store.specs.declared.Answer.{Answer}
 use Rattle.store.specs.declared.Answer.the-variants.{Kept, Written}
 
@@ -29,7 +29,7 @@ module _ (h : Header) (table image map : List ℕ) (k : ℕ) (octets : Octets ma
   pub kept-passing : agrees h (entryAt (h .n) map) table k ≡ true → passing h table image map k ≡ passedOf (Kept k) k image map
   unfolding passing
   kept-passing e =
-      ap₂ (λ (t : Bool) (b : Backup). passedTo h (cond t (Kept k) (Written k)) k b) e (page-kept h table (backupIn (h .n) image map) k e)
+      ap₂ (λ (t : Bool) (b : Backup). passedTo h (pageAnswer k t) k b) e (page-kept h table (backupIn (h .n) image map) k e)
       ∙ ap (passedOf (Kept k) k image) (file-of-reading map octets h holds)
 
   module _ (table-octets : Octets table) (inside : k < pages h) where
@@ -43,5 +43,5 @@ module _ (h : Header) (table image map : List ℕ) (k : ℕ) (octets : Octets ma
         ≡ passedOf (Written k) k (written image (k * h .page .count) (pageAt (h .page .count) table k)) (entryPut (madeEntry (h .n) (h .page .count) table k) map k)
     unfolding passing pageWritten
     written-passing e =
-        ap₂ (λ (t : Bool) (b : Backup). passedTo h (cond t (Kept k) (Written k)) k b) e (page-written h table (backupIn (h .n) image map) k e)
+        ap₂ (λ (t : Bool) (b : Backup). passedTo h (pageAnswer k t) k b) e (page-written h table (backupIn (h .n) image map) k e)
         ∙ ap (passedOf (Written k) k (written image (k * h .page .count) (pageAt (h .page .count) table k))) (sym entry-put-map)

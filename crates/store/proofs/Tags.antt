@@ -1,7 +1,7 @@
 -- The number that tells an answer's case in the code.
 -- Assumes nothing.
 use mathlib.Core.Path.{_≡_, refl}
-use mathlib.Core.Bool.{Bool, true, false, cond}
+use mathlib.Core.Bool.{Bool, true, false}
 use mathlib.Core.Logic.{_⊎_, ⊎-elim}
 use mathlib.Core.List.{[], _∷_}
 use Prim.Native.Nat.{ℕ}
@@ -9,6 +9,8 @@ use native.Mathlib.Omega.{arith}
 use denote.Enum.Declared.{tagOf}
 use types.Run.{OneOf}
 use Rattle.units.specs.declared.Listed.the-variants.{Numbers}
+use Rattle.units.specs.declared.Refusal.{Refusal}
+use Rattle.store.specs.Steps.{pageAnswer}
 use Rattle.store.specs.Stores.{endedBy}
 use Rattle.store.specs.declared.Answer.{Answer}
 use Rattle.store.specs.declared.Answer.the-variants.{Kept, Written, Finished, Refused}
@@ -33,23 +35,25 @@ below3 t o e = three-apart t 0 1 2 o (λ a. omega arith) (λ a. omega arith) (λ
 -- a page's answer is either kept or written
 
 module _ (k : ℕ) where
-  abbrev pub pageAnswer : Bool → Answer
-  pageAnswer b = cond b (Kept k) (Written k)
-
-  pub told-kept : (b : Bool) (j : ℕ) → Kept j ≡ pageAnswer b → b ≡ true
+  pub told-kept : (b : Bool) (j : ℕ) → Kept j ≡ pageAnswer k b → b ≡ true
   told-kept true j e = refl
   told-kept false j e = let z : _≡_ {A = ℕ} 0 1 = cc in absurd (omega arith)
 
-  pub told-written : (b : Bool) (j : ℕ) → Written j ≡ pageAnswer b → (b ≡ false) × (j ≡ k)
+  pub told-written : (b : Bool) (j : ℕ) → Written j ≡ pageAnswer k b → (b ≡ false) × (j ≡ k)
   told-written true j e = let z : _≡_ {A = ℕ} 0 1 = cc in absurd (omega arith)
   told-written false j e = (refl, cc)
 
-  pub told-neither : (b : Bool) → OneOf (1 ∷ 2 ∷ 3 ∷ []) (tag (pageAnswer b)) → OneOf (0 ∷ 2 ∷ 3 ∷ []) (tag (pageAnswer b)) → ⊥
+  pub told-neither : (b : Bool) → OneOf (1 ∷ 2 ∷ 3 ∷ []) (tag (pageAnswer k b)) → OneOf (0 ∷ 2 ∷ 3 ∷ []) (tag (pageAnswer k b)) → ⊥
   told-neither true one other = three-apart 0 1 2 3 one (omega arith) (omega arith) (omega arith)
   told-neither false one other = three-apart 1 0 2 3 other (omega arith) (omega arith) (omega arith)
 
-pub kept-not-finished : (j : ℕ) → Kept j ≡ Finished → ⊥
-kept-not-finished j e = let z : _≡_ {A = ℕ} 0 1 = cc in omega arith
+  pub told-not-finished : (b : Bool) → pageAnswer k b ≡ Finished → ⊥
+  told-not-finished true e = let z : _≡_ {A = ℕ} 0 1 = cc in omega arith
+  told-not-finished false e = let z : _≡_ {A = ℕ} 0 1 = cc in omega arith
 
-pub written-not-finished : (j : ℕ) → Written j ≡ Finished → ⊥
-written-not-finished j e = let z : _≡_ {A = ℕ} 0 1 = cc in omega arith
+  pub told-not-refused : (b : Bool) (r : Refusal) → pageAnswer k b ≡ Refused r → ⊥
+  told-not-refused true r e = let z : _≡_ {A = ℕ} 0 1 = cc in omega arith
+  told-not-refused false r e = let z : _≡_ {A = ℕ} 0 1 = cc in omega arith
+
+pub finished-not-refused : (r : Refusal) → Finished ≡ Refused r → ⊥
+finished-not-refused r e = let z : _≡_ {A = ℕ} 0 1 = cc in omega arith

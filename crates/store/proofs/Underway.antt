@@ -2,7 +2,7 @@
 -- Assumes nothing.
 use mathlib.Core.Path.{_≡_, sym, ap, ap₂, _∙_, subst}
 use mathlib.Core.Logic.{dite, _⊎_, inl, inr, ⊎-elim}
-use mathlib.Core.Bool.{Bool, true, false, not, cond}
+use mathlib.Core.Bool.{Bool, true, false, not}
 use mathlib.Core.List.{List, [], _∷_, _++_}
 use Prim.Native.Nat.{ℕ, suc, _+_, _≤_, _<_}
 use native.Mathlib.Nat.{zero-add, le-refl}
@@ -30,13 +30,13 @@ use Rattle.backup.proofs.Bounds.{some-page}
 use Rattle.backup.proofs.Entered.{AllHeld}
 use Rattle.backup.proofs.Opened.{Usable, holds-usable}
 use Rattle.backup.proofs.Storing.{none-stored, next-stored, ahead-entry, all-length, all-held}
-use Rattle.store.specs.Steps.{Stepped, steppedOf, passedTo, passing, staying, placeTests, stepUnless, openStep, stepping}
+use Rattle.store.specs.Steps.{Stepped, steppedOf, pageAnswer, passedTo, passing, staying, placeTests, stepUnless, openStep, stepping}
 use Rattle.store.specs.Stores.{storedOf, storedTo, openStore}
 use Rattle.store.specs.declared.Answer.{Answer}
 use Rattle.store.specs.declared.Answer.the-variants.{Kept, Written, Finished}
 use Rattle.store.specs.declared.Place.{Place}
 use Rattle.store.specs.declared.Step.{Step}
-use Rattle.store.proofs.Tags.{tag, told-kept, told-written, told-neither, kept-not-finished, written-not-finished}
+use Rattle.store.proofs.Tags.{tag, told-kept, told-written, told-neither, told-not-finished}
 
 -- the first k pages are through
 pub record Through (h : Header) (table image₀ map₀ : List ℕ) (k : ℕ) (image map : List ℕ) : Type 0 where
@@ -85,25 +85,24 @@ module _ {h : Header} {table image₀ map₀ : List ℕ} (ready : Ready h table 
     -- a page on the way is passed as the definition has it
     through-passing : k < pages h
         → passing h table image map k
-        ≡ passedTo h (cond (agrees h (entryAt (h .n) map₀) table k) (Kept k) (Written k)) k (stored h table (backupIn (h .n) image₀ map₀) (suc k))
+        ≡ passedTo h (pageAnswer k (agrees h (entryAt (h .n) map₀) table k)) k (stored h table (backupIn (h .n) image₀ map₀) (suc k))
     unfolding passing
     through-passing inside =
         let here : entryAt (h .n) map k ≡ entryAt (h .n) map₀ k = entries k inside ∙ ahead-entry h table (backupIn (h .n) image₀ map₀) k k (le-refl k) in
         let b : Backup = stored h table (backupIn (h .n) image₀ map₀) k in
-        let answer : Bool → Answer = λ t. cond t (Kept k) (Written k) in
         let next : pageStored h table b k ≡ stored h table (backupIn (h .n) image₀ map₀) (suc k) = sym (next-stored h table (backupIn (h .n) image₀ map₀) k) in
         ap₂ {C = Stepped}
-        (λ (i m : List ℕ). record { answer = answer (agrees h (entryAt (h .n) map) table k); next = record { page = suc k }; image = i; map = m })
+        (λ (i m : List ℕ). record { answer = pageAnswer k (agrees h (entryAt (h .n) map) table k); next = record { page = suc k }; image = i; map = m })
         (alike-image h table (backupIn (h .n) image map) b (t .image-is) entries k inside)
         (same-file h _ _ (alike-entries h table (backupIn (h .n) image map) b (t .image-is) entries k inside))
-        ∙ ap₂ (λ (t : Bool) (a : Backup). passedTo h (answer t) k a) (same-agrees h _ _ table k here) next
+        ∙ ap₂ (λ (t : Bool) (a : Backup). passedTo h (pageAnswer k t) k a) (same-agrees h _ _ table k here) next
 
     -- a step at the place k
 
     module _ {s : Step} {image′ map′ : List ℕ} (e : steppedOf s image′ map′ ≡ openStep h table image map (record { page = k })) where
       on : k < pages h
           → steppedOf s image′ map′
-          ≡ passedTo h (cond (agrees h (entryAt (h .n) map₀) table k) (Kept k) (Written k)) k (stored h table (backupIn (h .n) image₀ map₀) (suc k))
+          ≡ passedTo h (pageAnswer k (agrees h (entryAt (h .n) map₀) table k)) k (stored h table (backupIn (h .n) image₀ map₀) (suc k))
       unfolding openStep
       on inside =
           let below : k ≤ pages h = omega arith in
@@ -119,7 +118,7 @@ module _ {h : Header} {table image₀ map₀ : List ℕ} (ready : Ready h table 
         pub inside : k < pages h
         pub up : s .next .page ≡ suc k
         pub next : Through h table image₀ map₀ (s .next .page) image′ map′
-        pub told : s .answer ≡ cond (agrees h (entryAt (h .n) map₀) table k) (Kept k) (Written k)
+        pub told : s .answer ≡ pageAnswer k (agrees h (entryAt (h .n) map₀) table k)
 
       pub record Done : Type 0 where
         pub all : k ≡ pages h
@@ -156,13 +155,13 @@ module _ {h : Header} {table image₀ map₀ : List ℕ} (ready : Ready h table 
 
       pub on-kept : {j : ℕ} → s .answer ≡ Kept j → Passed × (agrees h (entryAt (h .n) map₀) table k ≡ true)
       on-kept {j} is =
-          ⊎-elim (λ (p : Passed). (p, told-kept k _ j (sym is ∙ p .told))) (λ (d : Done). absurd (kept-not-finished j (sym is ∙ d .told))) taken
+          ⊎-elim (λ (p : Passed). (p, told-kept k _ j (sym is ∙ p .told))) (λ (d : Done). absurd (told-not-finished j true (sym is ∙ d .told))) taken
 
       pub on-written : {j : ℕ} → s .answer ≡ Written j → Passed × (agrees h (entryAt (h .n) map₀) table k ≡ false) × (j ≡ k)
       on-written {j} is =
           ⊎-elim
           (λ (p : Passed). let w : _ = told-written k _ j (sym is ∙ p .told) in (p, w .0, w .1))
-          (λ (d : Done). absurd (written-not-finished j (sym is ∙ d .told)))
+          (λ (d : Done). absurd (told-not-finished j false (sym is ∙ d .told)))
           taken
 
       pub on-neither : OneOf (1 ∷ 2 ∷ 3 ∷ []) (tag (s .answer)) → OneOf (0 ∷ 2 ∷ 3 ∷ []) (tag (s .answer)) → Done

@@ -1,5 +1,5 @@
 -- One step of a store: what it answers, the place it hands back, and what image and map hold then.
-use mathlib.Core.Bool.{cond}
+use mathlib.Core.Bool.{Bool, cond}
 use mathlib.Core.List.{List, [], _∷_}
 use Prim.Native.Nat.{ℕ, suc}
 use lib.Dec.{ltb, eqb}
@@ -26,13 +26,17 @@ pub record Stepped : Type 0 where
 abbrev pub steppedOf : Step → List ℕ → List ℕ → Stepped
 steppedOf s image map = record { answer = s .answer; next = s .next; image = image; map = map }
 
+-- what is said of page k
+abbrev pub pageAnswer : ℕ → Bool → Answer
+pageAnswer k kept = cond kept (Kept k) (Written k)
+
 -- the page at the place is kept or written, and the place goes up by one
 abbrev pub passedTo : Header → Answer → ℕ → Backup → Stepped
 passedTo h answer k after = record { answer = answer; next = record { page = suc k }; image = after .image; map = file h (after .entry) }
 
 unfoldable pub passing : Header → List ℕ → List ℕ → List ℕ → ℕ → Stepped
 passing h table image map k =
-    passedTo h (cond (agrees h (entryAt (h .n) map) table k) (Kept k) (Written k)) k (pageStored h table (backupIn (h .n) image map) k)
+    passedTo h (pageAnswer k (agrees h (entryAt (h .n) map) table k)) k (pageStored h table (backupIn (h .n) image map) k)
 
 -- nothing changes, and the place comes back as it came
 abbrev pub staying : Answer → Place → List ℕ → List ℕ → Stepped

@@ -17,7 +17,7 @@ use Rattle.units.specs.declared.Listed.the-variants.{Numbers}
 use Rattle.units.specs.declared.Verdict.{Verdict}
 use Rattle.units.specs.declared.Verdict.the-variants.{Allowed}
 use Rattle.units.proofs.Naming.{named-length, named-exactly, named-upward}
-use Rattle.units.proofs.Refusing.{Quiet, allowed-when}
+use Rattle.units.proofs.Refusing.{Quiet, allowed-when, not-both}
 use Rattle.units.proofs.Writing.{written-inside, written-after}
 use Rattle.signature.specs.Kinds.{wide}
 use Rattle.signature.specs.Objects.{Octets, symbols}
@@ -179,13 +179,10 @@ module _ (h : Header) (table image map list : List ℕ) (holds : reading map ≡
           let named : _ = named-exactly (λ i. not (agrees h (entryAt (h .n) map) table i)) (pages h) k in (
             λ m.
                 let b : (k < pages h) × (not (agrees h (entryAt (h .n) map) table k) ≡ true) = named .0 m in
-                (b .0, λ e. true-not-false (sym (same-kept k (b .0) e) ∙ not-true _ (b .1))),
+                (b .0, λ e. not-both (agrees h (entryAt (h .n) map) table k) (same-kept k (b .0) e) (not-true _ (b .1))),
             λ b. named .1 (b .0, at (agrees h (entryAt (h .n) map) table k) refl (b .0) (b .1)),
           )
         where
-          true-not-false : true ≡ false → ⊥
-          true-not-false e = let z : _≡_ {A = ℕ} 0 1 = cc in omega arith
-
           at : (t : Bool) → agrees h (entryAt (h .n) map) table k ≡ t → k < pages h → pageAt (h .page .count) table k ≢ pageAt (h .page .count) image k → not t ≡ true
           at true e inside apart = absurd (apart (kept-same k inside e))
           at false e inside apart = refl

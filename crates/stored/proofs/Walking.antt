@@ -19,7 +19,7 @@ use Rattle.units.specs.declared.Refusal.{Refusal}
 use Rattle.units.specs.declared.Verdict.{Verdict}
 use Rattle.units.specs.declared.Verdict.the-variants as Verdict
 use Rattle.units.proofs.Naming.{named-none}
-use Rattle.units.proofs.Refusing.{allowed-not-refused}
+use Rattle.units.proofs.Refusing.{allowed-not-refused, same-refusal}
 use Rattle.signature.specs.Objects.{Octets}
 use Rattle.map.specs.Files.{pages}
 use Rattle.map.specs.Reading.{headerOf, reading, entryAt}
@@ -28,12 +28,13 @@ use Rattle.map.specs.declared.Reading.the-variants.{Holds}
 use Rattle.backup.specs.Backups.{agrees, changed}
 use Rattle.backup.specs.Openings.{mapTest, matchTest}
 use Rattle.backup.proofs.Opened.{Usable}
-use Rattle.store.specs.Steps.{stepUnless, openStep, stepping}
+use Rattle.store.specs.Steps.{pageAnswer, stepUnless, openStep, stepping}
 use Rattle.store.specs.Stores.{Stored, storeTests, storing}
-use Rattle.store.specs.declared.Answer.the-variants.{Kept, Written, Finished, Refused}
+use Rattle.store.specs.declared.Answer.the-variants.{Finished, Refused}
 use Rattle.store.specs.declared.Place.{Place}
 use Rattle.store.specs.declared.Step.{Step}
-use Rattle.store.proofs.Answers.{page-told, finished-told, store-told}
+use Rattle.store.proofs.Answers.{store-told}
+use Rattle.store.proofs.Tags.{told-not-refused, finished-not-refused}
 use Rattle.store.proofs.Underway.{Ready, Through, Passed, Done, taken, none-through, through-reads, through-length, step-opens}
 use Rattle.stored.specs.Walks.{Walk, Same, writtenBy, walked, walkTo, outset}
 use Rattle.stored.proofs.Mirroring.{store-usable, store-leaves, store-counts}
@@ -45,7 +46,7 @@ module _ (h : Header) (table image map : List ℕ) (ready : Ready h table image 
     through : Through h table image map m (w .image) (w .map)
     numbers-are : w .numbers ≡ changed h table (entryAt (h .n) map) m
 
-  noted : (t : Bool) (m : ℕ) → writtenBy (cond t (Kept m) (Written m)) ≡ cond (not t) (m ∷ []) []
+  noted : (t : Bool) (m : ℕ) → writtenBy (pageAnswer m t) ≡ cond (not t) (m ∷ []) []
   noted true m = refl
   noted false m = refl
 
@@ -86,8 +87,8 @@ module _ (h : Header) (table image map : List ℕ) (ready : Ready h table image 
     allowed : (why : Refusal) → stepping table (w .image) (w .map) (w .place) .answer ≡ Refused why → ⊥
     allowed why e =
         ⊎-elim
-        (λ (p : Passed ready (r .through) {s = step} opens). page-told (agrees h (entryAt (h .n) map) table m) m why (sym (p .told) ∙ e))
-        (λ (d : Done ready (r .through) {s = step} opens). finished-told why (sym (d .told) ∙ e))
+        (λ (p : Passed ready (r .through) {s = step} opens). told-not-refused m (agrees h (entryAt (h .n) map) table m) why (sym (p .told) ∙ e))
+        (λ (d : Done ready (r .through) {s = step} opens). finished-not-refused why (sym (d .told) ∙ e))
         (taken ready (r .through) {s = step} opens)
 
   reached : (m : ℕ) → m ≤ pages h → Reached m (walked table (outset image map) m)
@@ -95,12 +96,17 @@ module _ (h : Header) (table image map : List ℕ) (ready : Ready h table image 
   reached zero most = record { place-is = refl; through = none-through ready; numbers-are = sym (named-none _) }
   reached (suc m) most = on m (walked table (outset image map) m) (reached m (omega arith)) (omega arith)
 
+-- a store that is not refused could start
+store-ready : (h : Header) (table image map list : List ℕ) → Octets table → Octets map → reading map ≡ Holds h
+    → (count : ℕ) → storing table image map list .answer ≡ Numbers count → Ready h table image map
+store-ready h table image map list table-octets map-octets holds count answer =
+    let u : Usable (length table) (length image) map h = store-usable h table image map list holds count answer in
+    record { table-octets = table-octets; map-octets = map-octets; holds = holds; table-length = u .one-fits; image-length = u .other-fits }
+
 pub steps-are-the-store : (h : Header) (table image map list : List ℕ) → Octets table → Octets map → reading map ≡ Holds h
     → (count : ℕ) → storing table image map list .answer ≡ Numbers count → Same (walked table (outset image map) (pages h)) table list count (storing table image map list)
 steps-are-the-store h table image map list table-octets map-octets holds count answer =
-    let u : Usable (length table) (length image) map h = store-usable h table image map list holds count answer in
-    let ready : Ready h table image map =
-    record { table-octets = table-octets; map-octets = map-octets; holds = holds; table-length = u .one-fits; image-length = u .other-fits } in
+    let ready : Ready h table image map = store-ready h table image map list table-octets map-octets holds count answer in
     let w : Walk = walked table (outset image map) (pages h) in
     let r : Reached h table image map ready (pages h) w = reached h table image map ready (pages h) (le-refl (pages h)) in
     let left : _ = store-leaves h table image map list holds count answer in
@@ -120,22 +126,17 @@ pub no-step-refused : (h : Header) (table image map list : List ℕ) → Octets 
     → (m : ℕ) → m ≤ pages h → (why : Refusal)
     → stepping table (walked table (outset image map) m .image) (walked table (outset image map) m .map) (walked table (outset image map) m .place) .answer ≢ Refused why
 no-step-refused h table image map list table-octets map-octets holds count answer m most why =
-    let u : Usable (length table) (length image) map h = store-usable h table image map list holds count answer in
-    let ready : Ready h table image map =
-    record { table-octets = table-octets; map-octets = map-octets; holds = holds; table-length = u .one-fits; image-length = u .other-fits } in
+    let ready : Ready h table image map = store-ready h table image map list table-octets map-octets holds count answer in
     allowed h table image map ready m (walked table (outset image map) m) (reached h table image map ready m most) why
 
 -- the third of three tests does not decide
 first-two : (t u v w : Test) (r : Refusal) → first (t ∷ u ∷ v ∷ []) ≡ Verdict.Refused r → (v .refusal ≡ r → ⊥) → first (t ∷ u ∷ w ∷ []) ≡ Verdict.Refused r
 first-two t u v w r e other = at (t .applies) (u .applies) (v .applies) refl refl refl
   where
-    same : (a b : Refusal) → Verdict.Refused a ≡ Verdict.Refused b → a ≡ b
-    same a b q = cc
-
     at : (a b d : Bool) → t .applies ≡ a → u .applies ≡ b → v .applies ≡ d → first (t ∷ u ∷ w ∷ []) ≡ Verdict.Refused r
     at true b d p q z = simp p (simp p at e)
     at false true d p q z = simp (p, q) (simp (p, q) at e)
-    at false false true p q z = absurd (other (same (v .refusal) r (simp (p, q, z) at e)))
+    at false false true p q z = absurd (other (same-refusal (v .refusal) r (simp (p, q, z) at e)))
     at false false false p q z = absurd (allowed-not-refused r (simp (p, q, z) at e))
 
 -- and where it is refused for anything but the list's room, the first step is refused with the same

@@ -30,7 +30,7 @@ pub record Given (ts : List Test) (r : Refusal) : Type 0 where
 pub allowed-not-refused : (r : Refusal) → Allowed ≡ Refused r → ⊥
 allowed-not-refused r p = let z : _≡_ {A = ℕ} 0 1 = cc in omega arith
 
-same-refusal : (r s : Refusal) → Refused r ≡ Refused s → r ≡ s
+pub same-refusal : (r s : Refusal) → Refused r ≡ Refused s → r ≡ s
 same-refusal r s p = cc
 
 found : (ts : List Test) (r : Refusal) → first ts ≡ Refused r → Given ts r
@@ -121,7 +121,7 @@ above-each n (t ∷ ts) h u m =
     (λ (k : List·Memᴰ u ts). above-each n ts (both .1) u k)
     (List·Memᴰ·cases-cons m)
 
-not-both : (b : Bool) → b ≡ true → b ≡ false → ⊥
+pub not-both : (b : Bool) → b ≡ true → b ≡ false → ⊥
 not-both b p q = let z : _≡_ {A = ℕ} 0 1 = cc in omega arith
 
 lowest-of : (ts : List Test) → T (ascending ts) → (r : Refusal) → first ts ≡ Refused r → Lowest ts r
