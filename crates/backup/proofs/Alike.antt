@@ -8,6 +8,7 @@ use Prim.Native.Nat.{ℕ, _*_, _<_}
 use native.Mathlib.Decide.{ℕ-discrete}
 use native.Mathlib.Omega.{arith}
 use Rattle.units.specs.Writing.{written}
+use Rattle.units.proofs.Runs.{run-same}
 use Rattle.signature.specs.Kinds.{wide}
 use Rattle.signature.specs.Operations.{own}
 use Rattle.map.specs.Buckets.{pageAt}
@@ -15,7 +16,6 @@ use Rattle.map.specs.Files.{pages, entry, file, header}
 use Rattle.map.specs.Making.{madeEntry}
 use Rattle.map.specs.declared.Entry.{Entry}
 use Rattle.map.specs.declared.Header.{Header}
-use Rattle.map.proofs.Runs.{run-same}
 use Rattle.backup.specs.Backups.{Backup, same, agrees, pageWritten, pageStored}
 use Rattle.backup.proofs.Storing.{by-page, stored-entry, stored-entry-else}
 

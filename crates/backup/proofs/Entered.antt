@@ -11,13 +11,13 @@ use lib.ListN.{length, length-append}
 use borrow.Author.Tests.{eq-eqb, ne-eqb}
 use Rattle.units.specs.Writing.{written}
 use Rattle.units.proofs.Writing.{written-over}
+use Rattle.units.proofs.Runs.{run-at, run-same}
 use Rattle.signature.specs.declared.Signature.{Signature}
 use Rattle.map.specs.Files.{pages, header, entry, entries, file, entryPut, entryBytes, place}
 use Rattle.map.specs.declared.Entry.{Entry}
 use Rattle.map.specs.declared.Header.{Header}
 use Rattle.map.proofs.Contents.{Sized, Held, file-length, entries-length}
 use Rattle.map.proofs.MadeMaps.{entry-inside}
-use Rattle.map.proofs.Runs.{run-at, run-same}
 use Rattle.map.proofs.Tagging.{header-length, entry-length, entry-put}
 
 -- the entries, with page k's replaced

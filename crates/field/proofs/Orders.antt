@@ -65,6 +65,9 @@ module _ (F : Field) (good : Passes F) where
   undone : (k : ℕ) → k ≤ order F → product F (power F α k) (power F α (order F - k)) ≡ 1
   undone k h = sym (together k (order F - k)) ∙ ap (power F α) (add-sub-of-le h) ∙ α-returns F good
 
+  pub power-undone : (k : ℕ) → product F (power F α k) (power F α (order F - k % order F)) ≡ 1
+  power-undone k = ap (λ (x : ℕ). product F x (power F α (order F - k % order F))) (power-mod k) ∙ undone (k % order F) (le-of-lt (mod-lt k order-pos))
+
   apart-below : (i j : ℕ) → i ≤ j → j < order F → power F α i ≡ power F α j → i ≡ j
   apart-below i j h hj e =
       let gone : (j - i) % order F ≡ 0 = order-exact (j - i) .0 one-left in

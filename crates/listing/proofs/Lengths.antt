@@ -5,9 +5,9 @@ use mathlib.Core.List.{List, _∷_, _++_}
 use Prim.Native.Nat.{ℕ, suc, _+_, _*_}
 use native.Mathlib.Omega.{arith}
 use lib.ListN.{length, length-append}
+use Rattle.units.proofs.Runs.{run-length}
 use Rattle.map.specs.Files.{pages}
 use Rattle.map.specs.declared.Header.{Header}
-use Rattle.map.proofs.Runs.{run-length}
 use Rattle.listing.specs.Digits.{width, decimal, hex}
 use Rattle.listing.specs.Lines.{nWord, pageWord, bucketWord, pagesWord, refusedWord, lineEnd, named, twoNamed, headerLine, columns, pageLine, refusedLine}
 use Rattle.listing.proofs.Digits.{decimal-length, hex-length}

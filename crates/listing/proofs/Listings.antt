@@ -5,17 +5,17 @@ use mathlib.Core.Logic.{_↔_}
 use mathlib.Core.List.{List, [], _∷_}
 use Prim.Native.Nat.{ℕ, _≤_}
 use native.Mathlib.Omega.{arith}
-use denote.Ref.{now}
 use lib.ListN.{length, take, drop, length-append}
 use borrow.Author.Tests.{le-ltb}
+use denote.Ref.{now}
 use Rattle.units.specs.Refusals.{first}
 use Rattle.units.specs.Filling.{told, room}
 use Rattle.units.specs.declared.Refusal.{Refusal}
 use Rattle.units.specs.declared.Verdict.the-variants.{Allowed, Refused}
 use Rattle.units.specs.declared.Filled.{Filled}
+use Rattle.units.specs.Runs.{endToEnd}
 use Rattle.units.proofs.Refusing.{Lowest}
 use Rattle.units.proofs.Filling.{filling-refused, filling-refused-keeps, filling-puts, filling-keeps-after}
-use Rattle.map.specs.Numbers.{endToEnd}
 use Rattle.map.specs.Files.{pages}
 use Rattle.map.specs.Reading.{reading}
 use Rattle.map.specs.declared.Reading.{Reading}

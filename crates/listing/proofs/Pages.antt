@@ -5,13 +5,13 @@ use mathlib.Core.List.{List}
 use Prim.Native.Nat.{ℕ, zero, suc, _+_, _*_, _≤_}
 use native.Mathlib.Omega.{arith}
 use lib.ListN.{length}
+use Rattle.units.specs.Runs.{endToEnd}
+use Rattle.units.proofs.Runs.{run-more, run-none, run-as-long}
 use Rattle.signature.specs.Signatures.{handed}
-use Rattle.map.specs.Numbers.{endToEnd}
 use Rattle.map.specs.Reading.{entryAt}
 use Rattle.map.specs.Files.{pages}
 use Rattle.map.specs.declared.Header.{Header}
 use Rattle.map.specs.declared.Entry.{Entry}
-use Rattle.map.proofs.Runs.{run-more, run-none, run-as-long}
 use Rattle.listing.specs.Digits.{width}
 use Rattle.listing.specs.Lines.{headerLine, pageLine, lineOf}
 use Rattle.listing.proofs.Digits.{width-most}

@@ -1,10 +1,10 @@
 -- The listing of a map as bytes of ASCII: a header line and a line for each page, or one line that says where the map is refused.
-use Prim.Native.Nat.{ℕ}
 use mathlib.Core.List.{List, [], _∷_, _++_}
+use Prim.Native.Nat.{ℕ}
 use lib.ListN.{length}
 use Rattle.units.specs.Filling.{Outcome, filling, room}
+use Rattle.units.specs.Runs.{endToEnd}
 use Rattle.signature.specs.Signatures.{handed}
-use Rattle.map.specs.Numbers.{endToEnd}
 use Rattle.map.specs.Files.{pages}
 use Rattle.map.specs.Reading.{reading, entryAt}
 use Rattle.map.specs.declared.Header.{Header}

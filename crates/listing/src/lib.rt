@@ -6,7 +6,7 @@ ghost use lib.ListN.{length};
 ghost use Rattle.units.specs.Writing.{written, putOf, put};
 ghost use Rattle.units.specs.Filling.{outcomeOf};
 ghost use Rattle.signature.specs.Signatures.{handed};
-ghost use Rattle.map.specs.Numbers.{endToEnd};
+ghost use Rattle.units.specs.Runs.{endToEnd};
 ghost use Rattle.map.specs.Files.{pages as Header·pages};
 ghost use Rattle.listing.specs.Digits.{digits, decimal};
 ghost use Rattle.listing.specs.Digits.{digit as Digits·digit, width as Digits·width};

@@ -7,10 +7,9 @@ use native.Mathlib.Numerals.{add-one}
 use native.Mathlib.Omega.{arith}
 use lib.ListN.{length, take, drop, length-drop}
 use lib.Seq.{drop-cons, drop-drop, take-add, length-take-le}
-use Rattle.signature.specs.Objects.{Octets}
-use Rattle.map.specs.Numbers.{lowBytes}
+use Rattle.signature.specs.Objects.{Octets, lowBytes}
+use Rattle.signature.proofs.Numbers.{read-written}
 use Rattle.map.specs.Files.{tagged}
-use Rattle.map.proofs.Numbers.{read-written}
 use Rattle.map.proofs.Fields.{Due}
 
 pub tagged-back : (tag size : ℕ) (bytes : List ℕ) (at : ℕ) → Octets bytes → Due tag size bytes at → (value : List ℕ) → value ≡ take size (drop (at + 3) bytes)

@@ -11,21 +11,21 @@ use Rattle.units.specs.Sizes.{nAllowed, pageAllowed, bucketAllowed}
 use Rattle.units.specs.Refusals.{first}
 use Rattle.units.specs.declared.Verdict.{Verdict}
 use Rattle.units.specs.declared.Verdict.the-variants.{Allowed}
-use Rattle.signature.specs.Objects.{lowFirst}
+use Rattle.units.specs.Runs.{endToEnd}
+use Rattle.units.proofs.Runs.{run-at, run-long, run-length}
+use Rattle.signature.specs.Objects.{lowFirst, lowBytes}
 use Rattle.signature.specs.Signatures.{handed, answered}
 use Rattle.signature.specs.declared.Signature.{Signature}
 use Rattle.signature.proofs.Handing.{answered-within}
-use Rattle.map.specs.Numbers.{lowBytes, endToEnd}
+use Rattle.signature.proofs.Numbers.{low-first-after, low-bytes-length, written-read}
 use Rattle.map.specs.Files.{pages, tagged, header, components, entry, entries, file, entryBytes, place}
 use Rattle.map.specs.Reading.{fieldAt, isDue, headerOf, entryTests, told, reading, entryAt}
 use Rattle.map.specs.declared.Header.{Header}
 use Rattle.map.specs.declared.Entry.{Entry}
 use Rattle.map.specs.declared.Reading.the-variants.{Holds}
-use Rattle.map.proofs.Numbers.{low-first-after, low-bytes-length, written-read}
 use Rattle.map.proofs.Fields.{due-is}
 use Rattle.map.proofs.Entries.{entry-kept, end-kept, due-entry}
 use Rattle.map.proofs.Headers.{Kept, kept-header, entries-decide}
-use Rattle.map.proofs.Runs.{run-at, run-long, run-length}
 use Rattle.map.proofs.Tagging.{tagged-length, header-length, components-length, entry-length}
 use Rattle.map.proofs.MadeMaps.{n-most, page-most, bucket-most, next-place}
 use Rattle.map.proofs.Placed.{value-read, tag-read, placed-due}

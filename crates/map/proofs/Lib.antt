@@ -1,9 +1,7 @@
 -- The laws that belong to no one function.
-pub mod Numbers
 pub mod Fields
 pub mod Entries
 pub mod Headers
-pub mod Runs
 pub mod Tagging
 pub mod MadeMaps
 pub mod Placed

@@ -13,11 +13,11 @@ use Rattle.units.specs.Counts.{pagesIn}
 use Rattle.units.specs.Sizes.{nAllowed, pageAllowed, bucketAllowed}
 use Rattle.units.specs.Writing.{written}
 use Rattle.units.proofs.Writing.{written-append}
+use Rattle.units.proofs.Runs.{run-length}
 use Rattle.map.specs.Files.{header, entry, entries, file, entryBytes, place}
 use Rattle.map.specs.Making.{madeHeader, madeEntry, made, needed}
 use Rattle.map.specs.declared.Header.{Header}
 use Rattle.map.proofs.Fields.{halves}
-use Rattle.map.proofs.Runs.{run-length}
 use Rattle.map.proofs.Tagging.{header-length, entry-length}
 
 module _ (n page : ℕ) (bucket : List ℕ) where

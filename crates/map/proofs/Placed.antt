@@ -7,10 +7,9 @@ use native.Mathlib.Nat.{add-zero}
 use native.Mathlib.Omega.{arith}
 use lib.ListN.{length, getD, length-append}
 use lib.Seq.{getD-at}
-use Rattle.signature.specs.Objects.{lowFirst}
-use Rattle.map.specs.Numbers.{lowBytes}
+use Rattle.signature.specs.Objects.{lowFirst, lowBytes}
+use Rattle.signature.proofs.Numbers.{low-first-after, low-bytes-length, written-read}
 use Rattle.map.specs.Files.{tagged}
-use Rattle.map.proofs.Numbers.{low-first-after, low-bytes-length, written-read}
 use Rattle.map.proofs.Fields.{Due}
 use Rattle.map.proofs.Tagging.{tagged-length}
 

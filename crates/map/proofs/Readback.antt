@@ -12,20 +12,19 @@ use borrow.Author.Tests.{le-leb}
 use Rattle.units.specs.Refusals.{first}
 use Rattle.units.specs.declared.Verdict.the-variants.{Allowed}
 use Rattle.units.proofs.Refusing.{Quiet, allowed-when}
-use Rattle.signature.specs.Objects.{Octets, lowFirst}
+use Rattle.units.proofs.Runs.{run-same, run-back}
+use Rattle.signature.specs.Objects.{Octets, lowFirst, lowBytes}
 use Rattle.signature.specs.Signatures.{handed, answered}
 use Rattle.signature.proofs.Handing.{handed-answered}
-use Rattle.map.specs.Numbers.{lowBytes}
+use Rattle.signature.proofs.Numbers.{read-written}
 use Rattle.map.specs.Files.{pages, tagged, header, components, entry, file, entryBytes, place}
 use Rattle.map.specs.Reading.{fieldAt, isDue, headerOf, mapTests, reading, entryAt}
 use Rattle.map.specs.declared.Header.{Header}
 use Rattle.map.specs.declared.Reading.the-variants.{Holds}
-use Rattle.map.proofs.Numbers.{read-written}
 use Rattle.map.proofs.Fields.{Due, n-due, page-due, bucket-due}
 use Rattle.map.proofs.Entries.{entry-due, quiet-due, quiet-end}
 use Rattle.map.proofs.Headers.{Kept, told-holds, n-small}
 use Rattle.map.proofs.Holding.{quiet-kept}
-use Rattle.map.proofs.Runs.{run-same, run-back}
 use Rattle.map.proofs.Back.{tagged-back}
 
 module _ (bytes : List ℕ) (octets : Octets bytes) where

@@ -8,13 +8,13 @@ use lib.ListN.{length, length-append}
 use borrow.Author.Tests.{le-leb, lt-leb}
 use Rattle.units.specs.Writing.{written}
 use Rattle.units.proofs.Writing.{written-append}
+use Rattle.units.proofs.Runs.{run-length}
 use Rattle.signature.specs.Signatures.{handed}
-use Rattle.map.specs.Numbers.{lowBytes}
+use Rattle.signature.specs.Objects.{lowBytes}
+use Rattle.signature.proofs.Numbers.{low-bytes-length}
 use Rattle.map.specs.Files.{tagged, header, components, entry, entryPut, entryBytes, place}
 use Rattle.map.specs.declared.Header.{Header}
 use Rattle.map.specs.declared.Entry.{Entry}
-use Rattle.map.proofs.Numbers.{low-bytes-length}
-use Rattle.map.proofs.Runs.{run-length}
 
 pub tagged-length : (tag : ℕ) (value : List ℕ) → length (tagged tag value) ≡ 3 + length value
 unfolding tagged

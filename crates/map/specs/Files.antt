@@ -1,13 +1,14 @@
 -- The map file as bytes, from its header and its entries by page number. An entry is its tag and its components.
-use Prim.Native.Nat.{ℕ, _+_, _*_}
 use mathlib.Core.Bool.{cond}
 use mathlib.Core.List.{List, _∷_, _++_}
+use Prim.Native.Nat.{ℕ, _+_, _*_}
 use lib.Dec.{leb}
 use lib.ListN.{length}
 use Rattle.units.specs.Counts.{pagesIn}
 use Rattle.units.specs.Writing.{written}
+use Rattle.units.specs.Runs.{endToEnd}
 use Rattle.signature.specs.Signatures.{handed}
-use Rattle.map.specs.Numbers.{lowBytes, endToEnd}
+use Rattle.signature.specs.Objects.{lowBytes}
 use Rattle.map.specs.declared.Header.{Header}
 use Rattle.map.specs.declared.Entry.{Entry}
 

@@ -1,5 +1,4 @@
 -- What the contracts of `map` cite, and what its promises speak of.
-pub mod Numbers
 pub mod Buckets
 pub mod Files
 pub mod Reading

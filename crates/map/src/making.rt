@@ -6,7 +6,7 @@ ghost use lib.ListN.{length};
 ghost use Rattle.units.specs.Writing.{written};
 ghost use Rattle.units.specs.Filling.{outcomeOf};
 ghost use Rattle.signature.specs.Signatures.{handed};
-ghost use Rattle.map.specs.Numbers.{lowBytes};
+ghost use Rattle.signature.specs.Objects.{lowBytes};
 ghost use Rattle.map.specs.Buckets.{pageAt};
 ghost use Rattle.map.specs.Files.{tagged, entries, entryPut, fileBytes};
 ghost use Rattle.map.specs.Files.{header as File·header, components as File·components, entry as File·entry, pages as Header·pages};
@@ -40,20 +40,12 @@ pub fn page_at<'a>(page: Bytes, bucket: &'a [u8], k: usize) -> &'a [u8]
     &bucket[start..]
 }
 
-fn put_two_bytes(x: usize, output: &mut [u8], at: usize)
-    requires { ⌜ at + 2 ≤ length (now output) ⌝ }
-    ensures { λ _. ⌜ now (output .exit) ≡ written (now (output .entry)) at (lowBytes 2 x) ⌝ }
-{
-    output[at] = (x % 256) as u8;
-    output[at + 1] = (x / 256 % 256) as u8;
-}
-
 fn put_four_bytes(x: usize, output: &mut [u8], at: usize)
     requires { ⌜ at + 4 ≤ length (now output) ⌝ }
     ensures { λ _. ⌜ now (output .exit) ≡ written (now (output .entry)) at (lowBytes 4 x) ⌝ }
 {
-    put_two_bytes(x, output, at);
-    put_two_bytes(x / 65536, output, at + 2);
+    signature::put_two_bytes(x, output, at);
+    signature::put_two_bytes(x / 65536, output, at + 2);
 }
 
 fn put_tag(tag: u8, size: usize, output: &mut [u8], at: usize)
@@ -61,7 +53,7 @@ fn put_tag(tag: u8, size: usize, output: &mut [u8], at: usize)
     ensures { λ _. ⌜ now (output .exit) ≡ written (now (output .entry)) at (tag ∷ lowBytes 2 size) ⌝ }
 {
     output[at] = tag;
-    put_two_bytes(size, output, at + 1);
+    signature::put_two_bytes(size, output, at + 1);
 }
 
 // A field whose value is a number of four bytes.
@@ -104,7 +96,7 @@ fn put_components(s: Signature, output: &mut [u8], at: usize)
     let mut j: usize = 1;
     let mut to = at;
     while left > 0 {
-        put_two_bytes(component(s, j) as usize, output, to);
+        signature::put_two_bytes(component(s, j) as usize, output, to);
         to += 2;
         j += 1;
         left -= 1;

@@ -3,6 +3,7 @@ pub mod Totals
 pub mod Counting
 pub mod Components
 pub mod Octets
+pub mod Numbers
 pub mod Handing
 pub mod Vanishing
 pub mod Parts

@@ -3,9 +3,9 @@
 use mathlib.Core.Path.{_≡_, refl, sym, ap, ap₂, _∙_, subst}
 use mathlib.Core.List.{List, _++_}
 use Prim.Native.Nat.{ℕ, zero, suc, _+_, _-_, _*_, _/_, _%_, _≤_, _<_, suc-le-suc}
-use native.Mathlib.Nat.{add-mul, add-assoc, add-zero, add-suc, suc-add, suc-mul, zero-lt-suc, mul-le-mul-right, mul-add-div-right, div-eq-of-lt, div-add-mod', lt-suc-self}
+use native.Mathlib.Nat.{add-mul, add-assoc, add-zero, add-suc, suc-add, suc-mul, zero-lt-suc, mul-le-mul-right, mul-add-div-right, div-eq-of-lt, div-add-mod', lt-suc-self, le-step}
 use native.Mathlib.Omega.{arith}
-use lib.ListN.{length, getD, length-append, List·getD-append}
+use lib.ListN.{length, getD, length-append, List·getD-append, List·getD-eq-default}
 use lib.Seq.{getD-append-add}
 use Rattle.signature.specs.Objects.{lowFirst, symbol, symbols}
 
@@ -33,6 +33,17 @@ pub symbol-same : (size : ℕ) (one other : List ℕ) (i : ℕ) → ((k : ℕ) �
     → symbol size one i ≡ symbol size other i
 unfolding symbol
 symbol-same size one other i e = low-first-same size one other (i * size) (i * size) e
+
+-- past the end there are zeros
+low-first-past : (size : ℕ) (bytes : List ℕ) (at : ℕ) → length bytes ≤ at → lowFirst size bytes at ≡ 0
+unfolding lowFirst
+low-first-past zero bytes at past = refl
+low-first-past (suc size) bytes at past =
+    ap₂ (λ (x y : ℕ). x + 256 * y) (List·getD-eq-default bytes 0 past) (low-first-past size bytes (suc at) (le-step past))
+
+pub symbol-past : (size : ℕ) (bytes : List ℕ) (i : ℕ) → length bytes ≤ i * size → symbol size bytes i ≡ 0
+unfolding symbol
+symbol-past size bytes i past = low-first-past size bytes (i * size) past
 
 -- c symbols that stand in one list from symbol a on, and at the front of another
 pub symbol-part : (size : ℕ) (one other : List ℕ) (a c : ℕ) → ((k : ℕ) → k < c * size → getD one (a * size + k) 0 ≡ getD other k 0)

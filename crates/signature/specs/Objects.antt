@@ -1,6 +1,6 @@
 -- An object is a list of bytes, and its symbols are numbers of `size` bytes each, low byte first. A last symbol that is cut off is completed by zeros.
-use Prim.Native.Nat.{ℕ, zero, suc, _+_, _*_, _<_}
-use mathlib.Core.List.{List}
+use mathlib.Core.List.{List, [], _∷_}
+use Prim.Native.Nat.{ℕ, zero, suc, _+_, _*_, _/_, _%_, _<_}
 use lib.ListN.{length, getD}
 use Rattle.units.specs.Counts.{symbolsIn}
 
@@ -12,6 +12,11 @@ Octets bytes = (i : ℕ) → getD bytes i 0 < 256
 unfoldable pub lowFirst : ℕ → List ℕ → ℕ → ℕ
 lowFirst zero bytes at = 0
 lowFirst (suc size) bytes at = getD bytes at 0 + 256 * lowFirst size bytes (suc at)
+
+-- and the other way round: x in `size` bytes
+unfoldable pub lowBytes : ℕ → ℕ → List ℕ
+lowBytes zero x = []
+lowBytes (suc size) x = x % 256 ∷ lowBytes size (x / 256)
 
 -- symbol i, counted from 0
 unfoldable pub symbol : ℕ → List ℕ → ℕ → ℕ

@@ -1,11 +1,12 @@
 // The algebraic signature of an object: signing it, joining the signatures of its two parts, and editing a signature where bytes were replaced.
 ghost use mathlib.Core.Path.{_≡_};
-ghost use Prim.Native.Nat.{_+_, _*_, _<_};
-ghost use lib.ListN.{length, getD};
+ghost use Prim.Native.Nat.{_+_, _*_};
+ghost use lib.ListN.{getD};
 ghost use Rattle.units.specs.Sizes.{objectAllowed};
+ghost use Rattle.units.specs.Writing.{partPut};
 ghost use Rattle.field.specs.Field.{GF16, α, _⊕_};
 ghost use Rattle.field.specs.Field.{product as Field·product, power as Field·power};
-ghost use Rattle.signature.specs.Objects.{symbol as Object·symbol, symbols as Object·symbols};
+ghost use Rattle.signature.specs.Objects.{lowBytes, symbol as Object·symbol, symbols as Object·symbols};
 ghost use Rattle.signature.specs.Signatures.{signature as Object·signature, joined, handed, answered, upTo};
 ghost use Rattle.signature.specs.Kinds.{wide};
 ghost use Rattle.signature.specs.Operations.{own as Object·own, signing, joining, editing};
@@ -87,7 +88,7 @@ fn refused(number: u32) -> Answer
     Answer::Refused(Refusal { number, value: 0 })
 }
 
-fn symbols_in(object: &[u8]) -> Symbols
+pub fn symbols_in(object: &[u8]) -> Symbols
     ensures { λ r. ⌜ r .count ≡ Object·symbols 2 (now (object .entry)) ⌝ }
 {
     units::symbols_of(Bytes {
@@ -188,11 +189,14 @@ fn doubled(j: usize, s: u16) -> u16
     r
 }
 
-fn symbol(object: &[u8], at: Symbols) -> u16
-    requires { ⌜ at .count * 2 < length (now object) ⌝ }
+// The symbol at a place, and zero past the end.
+pub fn symbol(object: &[u8], at: Symbols) -> u16
     ensures { λ r. ⌜ r ≡ Object·symbol 2 (now (object .entry)) (at .count) ⌝ }
 {
     let first = units::bytes_of(at).count;
+    if first >= object.len() {
+        return 0;
+    }
     let second = first + 1;
     let low = byte(object, Bytes { count: first }) as u16;
     let high = byte(object, Bytes { count: second }) as u16;
@@ -205,4 +209,18 @@ pub fn byte(object: &[u8], at: Bytes) -> u8
 {
     let i = at.count;
     if i < object.len() { object[i] } else { 0 }
+}
+
+// A number's two low bytes, low byte first, written over what stood there. Where there is no room for them, all stays as it was.
+pub fn put_two_bytes(x: usize, output: &mut [u8], at: usize)
+    ensures { λ _. ⌜ now (output .exit) ≡ partPut (lowBytes 2 x) (now (output .entry)) at ⌝ }
+{
+    if output.len() < 2 {
+        return;
+    }
+    if at > output.len() - 2 {
+        return;
+    }
+    output[at] = (x % 256) as u8;
+    output[at + 1] = (x / 256 % 256) as u8;
 }

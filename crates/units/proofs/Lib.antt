@@ -3,6 +3,7 @@ pub mod Moduli
 pub mod Pieces
 pub mod Refusing
 pub mod Writing
+pub mod Runs
 pub mod Filling
 pub mod Naming
 pub mod Answers

@@ -67,6 +67,24 @@ written-last old at xs x fits =
     ∙ sets-append xs (x ∷ []) old at
     ∙ sym (written-sets old at (xs ++ (x ∷ [])) long)
 
+sets-apart : (ys xs old : List ℕ) (at k : ℕ) → at + length xs ≤ k → sets (sets old k ys) at xs ≡ sets (sets old at xs) k ys
+sets-apart [] xs old at k far = refl
+sets-apart (y ∷ ys) xs old at k far =
+    sets-apart ys xs (set old k y) at (suc k) (omega arith) ∙ ap (λ (l : List ℕ). sets l (suc k) ys) (sets-before xs old at k y far)
+
+-- the later part, and then the one before it
+pub written-behind : (old : List ℕ) (at : ℕ) (xs ys : List ℕ) → at + (length xs + length ys) ≤ length old
+    → written (written old (at + length xs) ys) at xs ≡ written old at (xs ++ ys)
+written-behind old at xs ys fits =
+    let later : at + length xs + length ys ≤ length old = omega arith in
+    let room : at + length xs ≤ length (sets old (at + length xs) ys) = omega (arith, length-sets old (at + length xs) ys) in
+    let long : at + length (xs ++ ys) ≤ length old = omega (arith, length-append xs ys) in
+    ap (λ (l : List ℕ). written l at xs) (written-sets old (at + length xs) ys later)
+    ∙ written-sets (sets old (at + length xs) ys) at xs room
+    ∙ sets-apart ys xs old at (at + length xs) (le-refl (at + length xs))
+    ∙ sets-append xs ys old at
+    ∙ sym (written-sets old at (xs ++ ys) long)
+
 -- the place after a part
 pub put-next : (old new : List ℕ) (at next : ℕ) (xs : List ℕ) → putOf new next ≡ put old at xs → next ≡ at + length xs
 put-next old new at next xs e = ap (λ (p : Put). p .next) e

@@ -19,3 +19,7 @@ bytesIn size symbols = min (symbols * size) (2 ^ 64 - 1)
 -- less the whole rounds of α, whose power 65,535 is 1
 abbrev pub exponentAt : ℕ → ℕ → ℕ
 exponentAt component position = component * position % 65535
+
+-- what is missing to a whole round
+abbrev pub exponentBack : ℕ → ℕ
+exponentBack position = 65535 - position % 65535

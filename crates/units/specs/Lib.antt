@@ -3,5 +3,6 @@ pub mod Counts
 pub mod Sizes
 pub mod Refusals
 pub mod Writing
+pub mod Runs
 pub mod Filling
 pub mod Naming

@@ -1,6 +1,6 @@
 // Counts that carry their own name, the sizes that are allowed, a refusal's number with the value beside it, and a part put into a buffer.
 ghost use mathlib.Core.Path.{_≡_};
-ghost use Rattle.units.specs.Counts.{symbolsIn, bytesIn, pagesIn, exponentAt};
+ghost use Rattle.units.specs.Counts.{symbolsIn, bytesIn, pagesIn, exponentAt, exponentBack};
 ghost use Rattle.units.specs.Sizes.{nAllowed, pageAllowed, objectAllowed, bucketAllowed, captionAllowed};
 ghost use Rattle.units.specs.Writing.{partPut};
 
@@ -62,6 +62,15 @@ pub fn exponent_of(component: usize, position: Symbols) -> Exponent
     let i = position.count % 65535;
     Exponent {
         power: (j * i % 65535) as u16,
+    }
+}
+
+// The exponent that undoes a position's: α to the one, times α to the other, is 1.
+pub fn exponent_back(position: Symbols) -> Exponent
+    ensures { λ r. ⌜ r .power ≡ exponentBack (position .count) ⌝ }
+{
+    Exponent {
+        power: (65535 - position.count % 65535) as u16,
     }
 }
 

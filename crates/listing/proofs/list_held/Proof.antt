@@ -10,9 +10,9 @@ use Rattle.units.specs.Filling.{outcomeOf}
 use Rattle.units.specs.Writing.{written, Put}
 use Rattle.units.specs.declared.Filled.the-variants.{Written, Refused}
 use Rattle.units.specs.declared.Filled.{Filled}
+use Rattle.units.specs.Runs.{endToEnd}
 use Rattle.units.proofs.Writing.{put-next, written-append}
 use Rattle.map.specs.Files.{pages}
-use Rattle.map.specs.Numbers.{endToEnd}
 use Rattle.map.specs.declared.Header.{Header}
 use Rattle.listing.specs.Lines.{headerLine, lineOf}
 use Rattle.listing.proofs.Texts.{text-refused, text-written}

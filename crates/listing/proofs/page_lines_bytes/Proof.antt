@@ -7,9 +7,9 @@ use native.Mathlib.Nat.{sub-zero}
 use native.Mathlib.Numerals.{add-one}
 use native.Mathlib.Omega.{arith}
 use lib.ListN.{length}
+use Rattle.units.specs.Runs.{endToEnd}
+use Rattle.units.proofs.Runs.{run-more, run-none}
 use Rattle.map.specs.Files.{pages}
-use Rattle.map.specs.Numbers.{endToEnd}
-use Rattle.map.proofs.Runs.{run-more, run-none}
 use Rattle.listing.specs.Lines.{pageLine}
 use Rattle.listing.specs.Digits.{width}
 use Rattle.listing.proofs.Lengths.{page-line-length}

@@ -9,10 +9,10 @@ use native.Mathlib.Omega.{arith}
 use lib.ListN.{length, set, length-set}
 use borrow.Author.Needs.{needs}
 use Rattle.units.specs.Writing.{written, putOf, put}
+use Rattle.units.specs.Runs.{endToEnd}
 use Rattle.units.proofs.Writing.{written-none, written-cons}
+use Rattle.units.proofs.Runs.{run-step, run-none, run-length}
 use Rattle.signature.specs.Signatures.{handed}
-use Rattle.map.specs.Numbers.{endToEnd}
-use Rattle.map.proofs.Runs.{run-step, run-none, run-length}
 use Rattle.listing.specs.Lines.{columns}
 use Rattle.listing.specs.Digits.{hex}
 use Rattle.listing.proofs.Lengths.{column-length, columns-length}

@@ -8,12 +8,12 @@ use native.Mathlib.Numerals.{add-one}
 use native.Mathlib.Omega.{arith}
 use lib.ListN.{length}
 use Rattle.units.specs.Writing.{written, Put, putOf, put}
+use Rattle.units.specs.Runs.{endToEnd}
 use Rattle.units.proofs.Writing.{written-none}
+use Rattle.units.proofs.Runs.{run-step, run-more, run-none}
 use Rattle.signature.specs.Signatures.{handed}
 use Rattle.map.specs.Reading.{entryAt}
 use Rattle.map.specs.Files.{pages}
-use Rattle.map.specs.Numbers.{endToEnd}
-use Rattle.map.proofs.Runs.{run-step, run-more, run-none}
 use Rattle.listing.specs.Lines.{pageLine, lineOf}
 use Rattle.listing.proofs.Pages.{entry-line, entry-line-length}
 use Rattle.listing.proofs.Lengths.{page-line-length}

@@ -7,9 +7,9 @@ use lib.ListN.{length, getD}
 use borrow.Author.Needs.{needs}
 use Rattle.signature.specs.Signatures.{upTo}
 use Rattle.signature.specs.Objects.{lowFirst}
+use Rattle.signature.proofs.Numbers.{byte-within, two-bytes-within}
 use Rattle.map.specs.Reading.{entryAt}
 use Rattle.map.specs.Files.{place}
-use Rattle.map.proofs.Numbers.{byte-within, two-bytes-within}
 use Rattle.map.proofs.entry_at.Statement.{statement}
 use Rattle.map.proofs.entry_at.Tie as tie
 

@@ -6,7 +6,7 @@ use native.Mathlib.Omega.{arith}
 use borrow.Author.Needs.{needs}
 use Rattle.signature.specs.Objects.{lowFirst}
 use Rattle.signature.proofs.Octets.{low-first-lt}
-use Rattle.map.proofs.Numbers.{four-bytes}
+use Rattle.signature.proofs.Numbers.{four-bytes}
 use Rattle.map.proofs.four_bytes.Statement.{statement}
 use Rattle.map.proofs.four_bytes.Tie as tie
 

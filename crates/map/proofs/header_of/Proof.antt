@@ -1,8 +1,8 @@
 -- `map::header_of` meets its contract: the three values stand at their places.
 -- Assumes nothing.
 use borrow.Author.Needs.{needs}
+use Rattle.signature.proofs.Numbers.{one-byte}
 use Rattle.map.specs.Reading.{headerOf}
-use Rattle.map.proofs.Numbers.{one-byte}
 use Rattle.map.proofs.header_of.Statement.{statement}
 use Rattle.map.proofs.header_of.Tie as tie
 

@@ -3,7 +3,7 @@
 use mathlib.Core.Path.{sym, ap₂, _∙_}
 use Prim.Native.Nat.{ℕ, _+_, _*_}
 use borrow.Author.Needs.{needs}
-use Rattle.map.proofs.Numbers.{two-bytes}
+use Rattle.signature.proofs.Numbers.{two-bytes}
 use Rattle.map.proofs.two_bytes.Statement.{statement}
 use Rattle.map.proofs.two_bytes.Tie as tie
 

@@ -7,13 +7,14 @@ use native.Mathlib.Numerals.{add-one}
 use native.Mathlib.Omega.{arith}
 use lib.ListN.{length}
 use borrow.Author.Needs.{needs}
+use Rattle.units.specs.Runs.{endToEnd}
 use Rattle.units.specs.Writing.{written}
+use Rattle.units.proofs.Runs.{run-turn, run-none}
 use Rattle.units.proofs.Writing.{written-none}
+use Rattle.signature.specs.Objects.{lowBytes}
 use Rattle.signature.specs.Signatures.{handed}
+use Rattle.signature.proofs.Numbers.{low-bytes-length, two-bytes-put}
 use Rattle.map.specs.Files.{components}
-use Rattle.map.specs.Numbers.{lowBytes, endToEnd}
-use Rattle.map.proofs.Runs.{run-turn, run-none}
-use Rattle.map.proofs.Numbers.{low-bytes-length}
 use Rattle.map.proofs.making.put_components.Statement.{statement}
 use Rattle.map.proofs.making.put_components.Tie as tie
 
@@ -36,7 +37,7 @@ cast-put-two-bytes : tie.Need-cast-put-two-bytes Inv-loop μ-loop
 cast-put-two-bytes c = search needs
 
 put-two-bytes-requires : tie.Need-put-two-bytes-requires Inv-loop μ-loop
-put-two-bytes-requires c κs = omega arith
+put-two-bytes-requires c κs = tt
 
 add-to : tie.Need-add-to Inv-loop μ-loop
 add-to c = omega arith
@@ -60,7 +61,7 @@ loop-again c =
     let m : ℕ = at .left - 1 in
     let up : at .left ≡ suc m = omega arith in
     let put : put-two-bytes .last .1 .0 ≡ written (at .output) (at .to) (f (at .j)) =
-    put-two-bytes .ensures ∙ ap (λ (x : ℕ). written (at .output) (at .to) (lowBytes 2 x)) (component .ensures) in
+    put-two-bytes .ensures ∙ two-bytes-put (component .result) (at .output) (at .to) (omega arith) ∙ ap (λ (x : ℕ). written (at .output) (at .to) (lowBytes 2 x)) (component .ensures) in
     let fits : at .to + suc m * 2 ≤ length (at .output) = omega arith in (
       ap₂ (λ (l : List ℕ) (k : ℕ). written l (at .to + 2) (endToEnd f k m)) put (add-one (at .j)) ∙ run-turn f 2 (λ i. low-bytes-length 2 _) (at .output) (at .to) m (at .j) fits
           ∙ ap (λ (k : ℕ). written (at .output) (at .to) (endToEnd f (at .j) k)) (sym up) ∙ at .inv .0,

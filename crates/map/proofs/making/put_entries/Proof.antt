@@ -8,13 +8,13 @@ use native.Mathlib.Numerals.{add-one}
 use native.Mathlib.Omega.{arith}
 use lib.ListN.{length}
 use Rattle.units.specs.Writing.{written}
+use Rattle.units.specs.Runs.{endToEnd}
 use Rattle.units.proofs.Writing.{written-none}
+use Rattle.units.proofs.Runs.{run-turn, run-none}
 use Rattle.map.specs.Making.{madeEntry}
 use Rattle.map.specs.Files.{pages, place, entry, entryPut, entryBytes}
-use Rattle.map.specs.Numbers.{endToEnd}
 use Rattle.map.specs.declared.Entry.{Entry}
 use Rattle.map.proofs.MadeMaps.{made-n, made-length, next-place, entry-inside}
-use Rattle.map.proofs.Runs.{run-turn, run-none}
 use Rattle.map.proofs.Tagging.{entry-put}
 use Rattle.map.proofs.making.put_entries.Statement.{statement}
 use Rattle.map.proofs.making.put_entries.Tie as tie

@@ -8,8 +8,8 @@ use lib.ListN.{length}
 use borrow.Author.Needs.{needs}
 use Rattle.units.specs.Writing.{written}
 use Rattle.signature.specs.Signatures.{handed}
+use Rattle.signature.specs.Objects.{lowBytes}
 use Rattle.map.specs.Files.{components, entry, place, entryBytes}
-use Rattle.map.specs.Numbers.{lowBytes}
 use Rattle.map.proofs.Tagging.{tagged-written, components-length, entry-put, entry-not-put}
 use Rattle.map.proofs.making.put_entry.Statement.{statement}
 use Rattle.map.proofs.making.put_entry.Tie as tie

@@ -8,8 +8,8 @@ use lib.ListN.{length}
 use borrow.Author.Needs.{needs}
 use Rattle.units.specs.Writing.{written}
 use Rattle.units.proofs.Writing.{written-append}
-use Rattle.map.specs.Numbers.{lowBytes}
-use Rattle.map.proofs.Numbers.{low-bytes-length, low-bytes-halves}
+use Rattle.signature.specs.Objects.{lowBytes}
+use Rattle.signature.proofs.Numbers.{low-bytes-length, low-bytes-halves, two-bytes-put}
 use Rattle.map.proofs.making.put_four_bytes.Statement.{statement}
 use Rattle.map.proofs.making.put_four_bytes.Tie as tie
 
@@ -33,10 +33,12 @@ returns c =
     let args : _ = c .before .before .before .before .before .before .before .before .before .args in
     let low : List ℕ = lowBytes 2 (args .x) in
     let high : List ℕ = lowBytes 2 (args .x / 65536) in
-    let first : put-two-bytes .last .1 .0 ≡ written (args .output .now) (args .at) low = put-two-bytes .ensures in
+    let first : put-two-bytes .last .1 .0 ≡ written (args .output .now) (args .at) low =
+    put-two-bytes .ensures ∙ two-bytes-put (args .x) (args .output .now) (args .at) (omega (arith, required)) in
     let two : length low ≡ 2 = low-bytes-length 2 _ in
     let fits : args .at + (length low + length high) ≤ length (args .output .now) = omega (arith, low-bytes-length 2 (args .x / 65536), required) in
     put-two-bytes2 .ensures
+    ∙ two-bytes-put (args .x / 65536) (put-two-bytes .last .1 .0) (args .at + 2) (omega (arith, put-two-bytes .kept .1 .0, required))
     ∙ ap (λ (l : List ℕ). written l (args .at + 2) high) first
     ∙ ap (λ (k : ℕ). written (written (args .output .now) (args .at) low) (args .at + k) high) (sym two)
     ∙ written-append (args .output .now) (args .at) low high fits

@@ -8,10 +8,10 @@ use lib.ListN.{length, set, length-set, length-append}
 use borrow.Author.Needs.{needs}
 use Rattle.units.specs.Writing.{written}
 use Rattle.units.proofs.Writing.{written-one, written-append}
+use Rattle.signature.specs.Objects.{lowBytes}
+use Rattle.signature.proofs.Numbers.{low-bytes-length}
 use Rattle.map.specs.Files.{tagged, header}
-use Rattle.map.specs.Numbers.{lowBytes}
 use Rattle.map.proofs.Tagging.{tagged-length, tagged-written}
-use Rattle.map.proofs.Numbers.{low-bytes-length}
 use Rattle.map.proofs.making.put_header.Statement.{statement}
 use Rattle.map.proofs.making.put_header.Tie as tie
 

@@ -6,9 +6,9 @@ use Prim.Native.Nat.{ℕ, _+_}
 use native.Mathlib.Omega.{arith}
 use borrow.Author.Needs.{needs}
 use Rattle.units.specs.Writing.{written}
-use Rattle.map.specs.Numbers.{lowBytes}
+use Rattle.signature.specs.Objects.{lowBytes}
+use Rattle.signature.proofs.Numbers.{low-bytes-length}
 use Rattle.map.proofs.Tagging.{tagged-written}
-use Rattle.map.proofs.Numbers.{low-bytes-length}
 use Rattle.map.proofs.making.put_number.Statement.{statement}
 use Rattle.map.proofs.making.put_number.Tie as tie
 

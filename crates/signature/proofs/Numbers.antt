@@ -10,8 +10,9 @@ use native.Mathlib.Decide.{decLt}
 use native.Mathlib.Omega.{arith}
 use lib.ListN.{length, getD, take, drop, List·getD-eq-default}
 use lib.Seq.{drop-cons, getD-drop, drop-append-seam}
-use Rattle.signature.specs.Objects.{Octets, lowFirst}
-use Rattle.map.specs.Numbers.{lowBytes}
+use Rattle.units.specs.Writing.{written, partPut}
+use Rattle.units.proofs.Writing.{part-put}
+use Rattle.signature.specs.Objects.{Octets, lowFirst, lowBytes}
 
 -- ---- reading
 
@@ -74,6 +75,9 @@ low-bytes-length (suc size) x = ap suc (low-bytes-length size (x / 256))
 pub low-bytes-halves : (x : ℕ) → lowBytes 4 x ≡ lowBytes 2 x ++ lowBytes 2 (x / 65536)
 unfolding lowBytes
 low-bytes-halves x = simp (div-div-eq-div-mul)
+
+pub two-bytes-put : (x : ℕ) (old : List ℕ) (at : ℕ) → at + 2 ≤ length old → partPut (lowBytes 2 x) old at ≡ written old at (lowBytes 2 x)
+two-bytes-put x old at fits = part-put (lowBytes 2 x) old at (omega (arith, low-bytes-length 2 x))
 
 -- ---- and back
 

@@ -1,15 +1,16 @@
 -- Lists end to end: how long they are together, that writing them one after the other writes them all, and where each of them stands.
 -- Assumes nothing.
 use mathlib.Core.Path.{_≡_, refl, sym, ap, ap₂, _∙_}
-use mathlib.Core.List.{List, [], _++_, append-assoc}
+use mathlib.Core.List.{List, [], _++_, append-assoc, append-nil}
 use Prim.Native.Nat.{ℕ, zero, suc, _+_, _-_, _*_, _≤_, _<_}
 use native.Mathlib.Nat.{add-zero, zero-add, add-suc, suc-add, zero-mul, suc-mul, le-refl}
+use native.Mathlib.Numerals.{add-one}
 use native.Mathlib.Omega.{arith}
 use lib.ListN.{length, take, drop, length-append}
 use lib.Seq.{take-add, drop-drop}
 use Rattle.units.specs.Writing.{written, Put, put}
-use Rattle.units.proofs.Writing.{put-then}
-use Rattle.map.specs.Numbers.{endToEnd}
+use Rattle.units.specs.Runs.{endToEnd}
+use Rattle.units.proofs.Writing.{put-then, written-append, written-behind}
 
 -- one list, and then the others
 pub run-step : (f : ℕ → List ℕ) (old : List ℕ) (at m k : ℕ) → at + length (endToEnd f k (suc m)) ≤ length old
@@ -90,3 +91,32 @@ run-back f size bytes (suc m) k at e =
     ap₂ _++_ here (later ∙ ap (take (m * size)) (sym (drop-drop size at bytes)))
     ∙ sym (take-add size (m * size) (drop at bytes))
     ∙ ap (λ (n : ℕ). take n (drop at bytes)) (sym whole)
+
+-- ---- from the start: the list after i others, put after them or before them
+
+module _ (f : ℕ → List ℕ) (size : ℕ) (sized : (k : ℕ) → length (f k) ≡ size) where
+  run-last : (i : ℕ) → endToEnd f 0 (suc i) ≡ endToEnd f 0 i ++ f i
+  unfolding endToEnd
+  run-last i =
+      ap (endToEnd f 0) (sym (add-one i))
+      ∙ run-split f i 1 0
+      ∙ ap (λ (l : List ℕ). endToEnd f 0 i ++ l) (append-nil (f (0 + i)) ∙ ap f (zero-add i))
+
+  module _ (old : List ℕ) (i : ℕ) (fits : suc i * size ≤ length old) where
+    place : 0 + length (endToEnd f 0 i) ≡ i * size
+    place = zero-add (length (endToEnd f 0 i)) ∙ run-length f size sized i 0
+
+    both : 0 + (length (endToEnd f 0 i) + length (f i)) ≤ length old
+    both = omega (arith, run-length f size sized i 0, sized i, suc-mul i size)
+
+    pub run-up : written (written old 0 (endToEnd f 0 i)) (i * size) (f i) ≡ written old 0 (endToEnd f 0 (suc i))
+    run-up =
+        ap (λ (k : ℕ). written (written old 0 (endToEnd f 0 i)) k (f i)) (sym place)
+        ∙ written-append old 0 (endToEnd f 0 i) (f i) both
+        ∙ ap (written old 0) (sym (run-last i))
+
+    pub run-down : written (written old (i * size) (f i)) 0 (endToEnd f 0 i) ≡ written old 0 (endToEnd f 0 (suc i))
+    run-down =
+        ap (λ (k : ℕ). written (written old k (f i)) 0 (endToEnd f 0 i)) (sym place)
+        ∙ written-behind old 0 (endToEnd f 0 i) (f i) both
+        ∙ ap (written old 0) (sym (run-last i))
