@@ -3,19 +3,18 @@
 use mathlib.Core.Path.{_≡_, sym, ap, ap₂, _∙_, subst}
 use mathlib.Core.Logic.{dite, _⊎_, inl, inr, ⊎-elim}
 use mathlib.Core.Bool.{Bool, true, false, not}
-use mathlib.Core.List.{List, [], _∷_, _++_}
+use mathlib.Core.List.{List, [], _∷_}
 use Prim.Native.Nat.{ℕ, suc, _+_, _≤_, _<_}
-use native.Mathlib.Nat.{zero-add, le-refl}
+use native.Mathlib.Nat.{le-refl}
 use native.Mathlib.Decide.{decLt}
 use native.Mathlib.Omega.{arith}
-use lib.ListN.{length, set, length-append}
+use lib.ListN.{length, set}
 use borrow.Author.Tests.{le-ltb, eq-eqb, ne-eqb}
 use types.Run.{OneOf}
 use Rattle.units.specs.Writing.{written}
 use Rattle.units.specs.declared.Listed.the-variants.{Numbers}
 use Rattle.units.specs.declared.Verdict.{Verdict}
-use Rattle.units.proofs.Naming.{named-none, named-more, named-no-more, named-length}
-use Rattle.units.proofs.Writing.{written-none, written-one, written-append, written-length}
+use Rattle.units.proofs.Noting as Noting
 use Rattle.signature.specs.Objects.{Octets}
 use Rattle.map.specs.Files.{pages, file}
 use Rattle.map.specs.Reading.{reading, entryAt}
@@ -179,51 +178,26 @@ module _ {h : Header} {table image₀ map₀ : List ℕ} (ready : Ready h table 
 
 -- the pages written so far stand at its start
 pub record Noted (h : Header) (table map₀ list₀ : List ℕ) (k : ℕ) (list : List ℕ) (found : ℕ) : Type 0 where
-  pub list-is : list ≡ written list₀ 0 (changed h table (entryAt (h .n) map₀) k)
-  pub found-is : found ≡ length (changed h table (entryAt (h .n) map₀) k)
+  pub so-far : Noting.Noted (λ i. not (agrees h (entryAt (h .n) map₀) table i)) list₀ k list found
 
 module _ {h : Header} {table map₀ list₀ : List ℕ} where
   pub none-noted : Noted h table map₀ list₀ 0 list₀ 0
-  none-noted =
-      record {
-        list-is = sym (ap (written list₀ 0) (named-none _) ∙ written-none list₀ 0 (omega arith));
-        found-is = sym (ap length (named-none _));
-      }
+  none-noted = record { so-far = Noting.none-noted }
 
   module _ {k : ℕ} {list : List ℕ} {found : ℕ} (n : Noted h table map₀ list₀ k list found) where
     pub noted-below : found ≤ k
-    noted-below = omega (arith, n .found-is, named-length (λ i. not (agrees h (entryAt (h .n) map₀) table i)) k)
+    noted-below = Noting.noted-below (n .so-far)
 
     pub noted-length : k ≤ length list₀ → length list ≡ length list₀
-    noted-length room =
-        ap length (n .list-is)
-        ∙ written-length list₀ 0 (changed h table (entryAt (h .n) map₀) k) (omega (arith, named-length (λ i. not (agrees h (entryAt (h .n) map₀) table i)) k))
+    noted-length = Noting.noted-length (n .so-far)
 
     -- the next place
     pub noted-kept : {next : ℕ} → next ≡ suc k → agrees h (entryAt (h .n) map₀) table k ≡ true → Noted h table map₀ list₀ next list found
-    noted-kept {next} up e =
-        let no : changed h table (entryAt (h .n) map₀) (suc k) ≡ changed h table (entryAt (h .n) map₀) k = named-no-more _ k (ap not e) in
-        subst (λ (i : ℕ). Noted h table map₀ list₀ i list found) (sym up)
-        (record { list-is = n .list-is ∙ ap (written list₀ 0) (sym no); found-is = n .found-is ∙ ap length (sym no) })
+    noted-kept up e = record { so-far = Noting.noted-passed (n .so-far) up (ap not e) }
 
     pub noted-written : {next j : ℕ} → next ≡ suc k → j ≡ k → agrees h (entryAt (h .n) map₀) table k ≡ false → k < length list₀
         → Noted h table map₀ list₀ next (set list found j) (found + 1)
-    noted-written {next} {j} up is e room =
-        let xs : List ℕ = changed h table (entryAt (h .n) map₀) k in
-        let more : changed h table (entryAt (h .n) map₀) (suc k) ≡ xs ++ (k ∷ []) = named-more _ k (ap not e) in
-        let short : length xs ≤ k = named-length (λ i. not (agrees h (entryAt (h .n) map₀) table i)) k in
-        let long : length (written list₀ 0 xs) ≡ length list₀ = written-length list₀ 0 xs (omega arith) in
-        subst (λ (i : ℕ). Noted h table map₀ list₀ i (set list found j) (found + 1)) (sym up)
-        (record {
-          list-is =
-              ap (set list found) is
-              ∙ ap₂ (λ (l : List ℕ) (i : ℕ). set l i k) (n .list-is) (n .found-is)
-              ∙ sym (written-one (written list₀ 0 xs) (length xs) k (omega arith))
-              ∙ ap (λ (i : ℕ). written (written list₀ 0 xs) i (k ∷ [])) (sym (zero-add (length xs)))
-              ∙ written-append list₀ 0 xs (k ∷ []) (omega arith)
-              ∙ ap (written list₀ 0) (sym more);
-          found-is = ap (λ (i : ℕ). i + 1) (n .found-is) ∙ sym (length-append xs (k ∷ [])) ∙ ap length (sym more);
-        })
+    noted-written up is e room = record { so-far = Noting.noted-listed (n .so-far) up is (ap not e) room }
 
 -- ---- all pages are through: the store is what its definition says
 
@@ -235,7 +209,7 @@ all-through {h} {table} {image₀} {map₀} {list₀} {k} {image} {map} {list} {
     let so : openStore h table image₀ map₀ list₀ ≡ storedTo h (stored h table b (pages h)) (changed h table (entryAt (h .n) map₀) (pages h)) list₀ =
     simp (le-ltb _ _ room) in
     ap₂ (λ (i m : List ℕ). storedOf (Numbers found) i m list) (t .image-is) (t .map-is)
-    ∙ ap₂ (λ (c : ℕ) (l : List ℕ). storedOf (Numbers c) (stored h table b k .image) (file h (stored h table b k .entry)) l) (n .found-is) (n .list-is)
+    ∙ ap₂ (λ (c : ℕ) (l : List ℕ). storedOf (Numbers c) (stored h table b k .image) (file h (stored h table b k .entry)) l) (n .so-far .found-is) (n .so-far .list-is)
     ∙ ap (λ (i : ℕ). storedTo h (stored h table b i) (changed h table (entryAt (h .n) map₀) i) list₀) all
     ∙ sym so
 

@@ -6,4 +6,5 @@ pub mod Writing
 pub mod Runs
 pub mod Filling
 pub mod Naming
+pub mod Noting
 pub mod Answers

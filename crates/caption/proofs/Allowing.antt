@@ -1,0 +1,64 @@
+-- What it means that no test of encode and decode, or of a search, applies: in words of lengths, and back.
+-- Assumes nothing.
+use mathlib.Core.Path.{_≡_}
+use mathlib.Core.Logic.{_≢_}
+use mathlib.Core.Bool.{and-eq-true-iff}
+use mathlib.Core.List.{List}
+use Prim.Native.Nat.{ℕ, _*_, _%_, _≤_}
+use native.Mathlib.Omega.{arith}
+use lib.ListN.{length}
+use borrow.Author.Tests.{leb-true, eqb-true, eqb-false, ltb-false, not-false, le-leb, eq-eqb, ne-eqb, le-ltb}
+use Rattle.units.specs.Refusals.{first}
+use Rattle.units.specs.declared.Verdict.the-variants.{Allowed}
+use Rattle.units.proofs.Refusing.{allowed-when}
+use Rattle.signature.specs.Objects.{symbols}
+use Rattle.signature.specs.Kinds.{wide}
+use Rattle.signature.specs.Operations.{whole}
+use Rattle.caption.specs.Recoding.{recodeTests}
+use Rattle.caption.specs.Searches.{placesFor, searchTests}
+
+-- a field of whole symbols, not too many, and room for as many bytes
+pub record Recodable (caption output : List ℕ) : Type 0 where
+  pub short : symbols 2 caption ≤ 32768
+  pub even : length caption % 2 ≡ 0
+  pub fits : length caption ≤ length output
+
+pub recodable : (caption output : List ℕ) → first (recodeTests caption output) ≡ Allowed → Recodable caption output
+recodable caption output allowed =
+    let quiet : _ = allowed-when (recodeTests caption output) .0 allowed in
+    record {
+      short = leb-true _ _ (not-false _ (quiet .0));
+      even = eqb-true _ _ (not-false _ (quiet .1 .0));
+      fits = ltb-false _ _ (quiet .1 .1 .0);
+    }
+
+pub recode-allowed : (caption output : List ℕ) → Recodable caption output → first (recodeTests caption output) ≡ Allowed
+recode-allowed caption output r = simp (le-leb _ _ (r .short), eq-eqb _ _ (r .even), le-ltb _ _ (r .fits))
+
+-- whole symbols are half as many as bytes
+pub recodable-room : (caption output : List ℕ) → Recodable caption output → symbols 2 caption * 2 ≤ length output
+recodable-room caption output r = omega (arith, r .even, r .fits)
+
+-- a field and a pattern of whole symbols, the field of not too many and the pattern of some, and room for every place
+pub record Searchable (caption pattern list : List ℕ) : Type 0 where
+  pub short : symbols 2 caption ≤ 32768
+  pub even : length caption % 2 ≡ 0
+  pub pattern-even : length pattern % 2 ≡ 0
+  pub fits : placesFor caption pattern ≤ length list
+  pub some : symbols 2 pattern ≢ 0
+
+pub searchable : (caption pattern list : List ℕ) → first (searchTests caption pattern list) ≡ Allowed → Searchable caption pattern list
+searchable caption pattern list allowed =
+    let quiet : _ = allowed-when (searchTests caption pattern list) .0 allowed in
+    let wholes : _ = and-eq-true-iff (whole wide caption) (whole wide pattern) .0 (not-false _ (quiet .1 .0)) in
+    record {
+      short = leb-true _ _ (not-false _ (quiet .0));
+      even = eqb-true _ _ (wholes .0);
+      pattern-even = eqb-true _ _ (wholes .1);
+      fits = ltb-false _ _ (quiet .1 .1 .0);
+      some = eqb-false _ _ (quiet .1 .1 .1 .0);
+    }
+
+pub search-allowed : (caption pattern list : List ℕ) → Searchable caption pattern list → first (searchTests caption pattern list) ≡ Allowed
+search-allowed caption pattern list s =
+    simp (le-leb _ _ (s .short), eq-eqb _ _ (s .even), eq-eqb _ _ (s .pattern-even), le-ltb _ _ (s .fits), ne-eqb _ _ (s .some))

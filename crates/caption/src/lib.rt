@@ -1,0 +1,202 @@
+// Caption fields in the cumulative code: a field encoded, decoded, and searched for a plain pattern as it stands, without decoding.
+ghost use mathlib.Core.Path.{_≡_};
+ghost use Prim.Native.Nat.{_+_, _*_, _^_, _≤_, _<_};
+ghost use lib.Dec.{eqb};
+ghost use lib.ListN.{length};
+ghost use Rattle.units.specs.Filling.{outcomeOf};
+ghost use Rattle.units.specs.Refusals.{first};
+ghost use Rattle.units.specs.Writing.{written};
+ghost use Rattle.units.specs.declared.Verdict.the-variants.{Allowed, Refused};
+ghost use Rattle.field.specs.Field.{_⊕_};
+ghost use Rattle.signature.specs.Objects.{symbol as Object·symbol, symbols as Object·symbols};
+ghost use Rattle.caption.specs.Codes.{previous as Code·previous};
+ghost use Rattle.caption.specs.Recoding.{encoded, decoded, recodeTests, encoding, decoding};
+ghost use Rattle.caption.specs.Searches.{found, placesFor, searchedOf, searchUnless, searchTests, searching};
+use units::Bytes;
+use units::Filled;
+use units::Listed;
+use units::Refusal;
+use units::Symbols;
+use units::Verdict;
+
+// The code of a plain field, written to the start of the output.
+pub fn encode(caption: &[u8], output: &mut [u8]) -> Filled
+    ensures { λ r. ⌜ outcomeOf r (now (output .exit)) ≡ encoding 0 (now (caption .entry)) (now (output .entry)) ⌝ }
+{
+    let verdict = recode_verdict(caption, output);
+    match verdict {
+        Verdict::Refused(r) => Filled::Refused(r),
+        Verdict::Allowed => {
+            put_code(caption, output);
+            Filled::Written(Bytes {
+                count: caption.len(),
+            })
+        }
+    }
+}
+
+// The plain field of a code, written to the start of the output.
+pub fn decode(caption: &[u8], output: &mut [u8]) -> Filled
+    ensures { λ r. ⌜ outcomeOf r (now (output .exit)) ≡ decoding 0 (now (caption .entry)) (now (output .entry)) ⌝ }
+{
+    let verdict = recode_verdict(caption, output);
+    match verdict {
+        Verdict::Refused(r) => Filled::Refused(r),
+        Verdict::Allowed => {
+            put_plain(caption, output);
+            Filled::Written(Bytes {
+                count: caption.len(),
+            })
+        }
+    }
+}
+
+fn recode_verdict(caption: &[u8], output: &[u8]) -> Verdict
+    ensures { λ r. ⌜ r ≡ first (recodeTests (now (caption .entry)) (now (output .entry))) ⌝ }
+{
+    if !units::caption_allowed(signature::symbols_in(caption)) {
+        return refused(Refusal::LONG, 0);
+    }
+    if caption.len() % 2 != 0 {
+        return refused(Refusal::ODD, 0);
+    }
+    if output.len() < caption.len() {
+        return refused(Refusal::ROOM, caption.len());
+    }
+    Verdict::Allowed
+}
+
+fn refused(number: u32, value: usize) -> Verdict
+    ensures { λ r. ⌜ r ≡ Refused (record { number = number; value = value }) ⌝ }
+{
+    Verdict::Refused(Refusal { number, value })
+}
+
+// Upward: the weight is doubled at each symbol, and the sum is the code so far.
+fn put_code(caption: &[u8], output: &mut [u8])
+    requires { ⌜ Object·symbols 2 (now caption) * 2 ≤ length (now output) ⌝ }
+    ensures { λ _. ⌜ now (output .exit) ≡ written (now (output .entry)) 0 (encoded 0 (now (caption .entry))) ⌝ }
+{
+    let count = signature::symbols_in(caption).count;
+    let mut weight: u16 = 1;
+    let mut sum: u16 = 0;
+    let mut i: usize = 0;
+    while i < count {
+        let plain = signature::symbol(caption, Symbols { count: i });
+        sum = field::sum(sum, field::product(plain, weight));
+        signature::put_two_bytes(sum as usize, output, i * 2);
+        weight = field::double(weight);
+        i += 1;
+    }
+}
+
+// Downward, so that what undoes the weight is doubled at each symbol.
+fn put_plain(caption: &[u8], output: &mut [u8])
+    requires { ⌜ Object·symbols 2 (now caption) * 2 ≤ length (now output) ⌝ }
+    ensures { λ _. ⌜ now (output .exit) ≡ written (now (output .entry)) 0 (decoded 0 (now (caption .entry))) ⌝ }
+{
+    let all = signature::symbols_in(caption);
+    let mut unweight = field::times_power(1, units::exponent_back(all));
+    let mut i = all.count;
+    while i > 0 {
+        i -= 1;
+        unweight = field::double(unweight);
+        let here = Symbols { count: i };
+        let weighed = field::sum(signature::symbol(caption, here), previous(caption, here));
+        let plain = field::product(weighed, unweight);
+        signature::put_two_bytes(plain as usize, output, i * 2);
+    }
+}
+
+// Symbol i - 1 of a code, where symbol -1 is 0.
+fn previous(caption: &[u8], i: Symbols) -> u16
+    ensures { λ r. ⌜ r ≡ Code·previous (Object·symbol 2 (now (caption .entry))) (i .count) ⌝ }
+{
+    if i.count == 0 {
+        return 0;
+    }
+    signature::symbol(caption, Symbols { count: i.count - 1 })
+}
+
+// The places where a plain pattern hits in a code, written to the start of the list, upward.
+pub fn search(caption: &[u8], pattern: &[u8], list: &mut [usize]) -> Listed
+    ensures { λ r. ⌜ searchedOf r (now (list .exit)) ≡ searching 0 (now (caption .entry)) (now (pattern .entry)) (now (list .entry)) ⌝ }
+{
+    let verdict = search_verdict(caption, pattern, list);
+    match verdict {
+        Verdict::Refused(r) => Listed::Refused(r),
+        Verdict::Allowed => find(caption, pattern, list),
+    }
+}
+
+fn search_verdict(caption: &[u8], pattern: &[u8], list: &[usize]) -> Verdict
+    ensures { λ r. ⌜ r ≡ first (searchTests (now (caption .entry)) (now (pattern .entry)) (now (list .entry))) ⌝ }
+{
+    if !units::caption_allowed(signature::symbols_in(caption)) {
+        return refused(Refusal::LONG, 0);
+    }
+    if caption.len() % 2 != 0 {
+        return refused(Refusal::ODD, 0);
+    }
+    if pattern.len() % 2 != 0 {
+        return refused(Refusal::ODD, 0);
+    }
+    let needed = places(caption, pattern);
+    if list.len() < needed {
+        return refused(Refusal::ROOM, needed);
+    }
+    if pattern.len() == 0 {
+        return refused(Refusal::EMPTY, 0);
+    }
+    Verdict::Allowed
+}
+
+// How many places there are for the pattern in the field.
+fn places(caption: &[u8], pattern: &[u8]) -> usize
+    ensures { λ r. ⌜ r ≡ placesFor (now (caption .entry)) (now (pattern .entry)) ⌝ }
+{
+    let m = signature::symbols_in(caption).count;
+    let l = signature::symbols_in(pattern).count;
+    if l == 0 {
+        return 0;
+    }
+    if l > m {
+        return 0;
+    }
+    m - l + 1
+}
+
+// One comparison a place: what it is compared with is the pattern's signature, doubled at each place. A pattern with no place is not signed.
+fn find(caption: &[u8], pattern: &[u8], list: &mut [usize]) -> Listed
+    requires { ⌜ placesFor (now caption) (now pattern) ≤ length (now list) ⌝ }
+    ensures { λ r. ⌜ searchedOf r (now (list .exit)) ≡ searchUnless Allowed (found 0 (now (caption .entry)) (now (pattern .entry))) (now (list .entry)) ⌝ }
+{
+    let count = places(caption, pattern);
+    if count == 0 {
+        return Listed::Numbers(0);
+    }
+    let l = signature::symbols_in(pattern);
+    let mut weighed = signature::own(1, pattern).s1;
+    let mut found: usize = 0;
+    let mut i: usize = 0;
+    while i < count {
+        if hits(caption, l, weighed, Symbols { count: i }) {
+            list[found] = i;
+            found += 1;
+        }
+        weighed = field::double(weighed);
+        i += 1;
+    }
+    Listed::Numbers(found)
+}
+
+// Whether the l symbols at place i, weighted as they are in the code, add up to this.
+fn hits(caption: &[u8], l: Symbols, weighed: u16, i: Symbols) -> bool
+    requires { ⌜ i .count + l .count < 2 ^ 64 ⌝ }
+    ensures { λ r. ⌜ r ≡ eqb (Code·previous (Object·symbol 2 (now (caption .entry))) (i .count + l .count) ⊕ Code·previous (Object·symbol 2 (now (caption .entry))) (i .count)) weighed ⌝ }
+{
+    let end = Symbols {
+        count: i.count + l.count,
+    };
+    field::sum(previous(caption, end), previous(caption, i)) == weighed
+}
