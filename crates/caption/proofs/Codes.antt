@@ -94,7 +94,7 @@ module _ (F : Field) (e : ℕ) where
         one-unweighed : (k : ℕ) → product F 1 (unweight F e k) ≡ unweight F e k
         one-unweighed k = one-product F (formed F good) (unweight-element k)
 
-    weights-tell : (k : ℕ) {x y : ℕ} → Element F x → Element F y → product F x (weight F e k) ≡ product F y (weight F e k) → x ≡ y
+    pub weights-tell : (k : ℕ) {x y : ℕ} → Element F x → Element F y → product F x (weight F e k) ≡ product F y (weight F e k) → x ≡ y
     weights-tell k hx hy same = sym (weighed-back k hx) ∙ ap (λ (z : ℕ). product F z (unweight F e k)) same ∙ weighed-back k hy
 
     -- ---- elements

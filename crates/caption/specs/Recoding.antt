@@ -29,9 +29,12 @@ tooLong caption = not (captionAllowed (symbols 2 caption))
 abbrev pub recodeTests : List ℕ → List ℕ → List Test
 recodeTests caption output = gives LONG (tooLong caption) ∷ gives ODD (not (whole wide caption)) ∷ room (length caption) output ∷ []
 
--- as many bytes are written as the field has
+-- the field in its new form, which has as many bytes
+abbrev pub recoding : List ℕ → List ℕ → List ℕ → Outcome
+recoding new caption output = filling (recodeTests caption output) (length caption) new output
+
 abbrev pub encoding : ℕ → List ℕ → List ℕ → Outcome
-encoding e caption output = filling (recodeTests caption output) (length caption) (encoded e caption) output
+encoding e caption output = recoding (encoded e caption) caption output
 
 abbrev pub decoding : ℕ → List ℕ → List ℕ → Outcome
-decoding e caption output = filling (recodeTests caption output) (length caption) (decoded e caption) output
+decoding e caption output = recoding (decoded e caption) caption output

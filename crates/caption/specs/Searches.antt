@@ -50,11 +50,6 @@ searchTests caption pattern list =
 abbrev pub searching : ℕ → List ℕ → List ℕ → List ℕ → Searched
 searching e caption pattern list = searchUnless (first (searchTests caption pattern list)) (found e caption pattern) list
 
--- what the table says of an answer
-abbrev pub told : Listed → Verdict
-told (Numbers count) = Verdict.Allowed
-told (Refused r) = Verdict.Refused r
-
 -- the pattern's symbols stand in the plain field from place i on
 pub record Occurs (caption pattern : List ℕ) (i : ℕ) : Type 0 where
   pub some : 1 ≤ symbols 2 pattern

@@ -1,14 +1,17 @@
 -- Symbols made of octets are elements of a field that is wide enough, and so are the differences of two objects.
 -- Assumes nothing.
 use mathlib.Core.Path.{_≡_, sym, ap, _∙_, subst}
-use mathlib.Core.List.{List}
-use Prim.Native.Nat.{ℕ, zero, suc, _+_, _*_, _^_, _≤_, _<_}
+use mathlib.Core.Logic.{dite}
+use mathlib.Core.List.{List, [], _∷_, _++_}
+use Prim.Native.Nat.{ℕ, zero, suc, _+_, _-_, _*_, _/_, _%_, _^_, _≤_, _<_}
 use native.Mathlib.Nat.{pow-suc, mul-comm, zero-lt-suc, lt-of-lt-of-le, mul-le-mul-left, le-refl}
 use native.Mathlib.Omega.{arith}
-use lib.ListN.{getD}
+use native.Mathlib.Decide.{decLt}
+use lib.ListN.{length, getD, List·getD-append}
+use lib.Seq.{getD-append-add}
 use Rattle.field.specs.Field.{Field, Element, _⊕_, GF16}
 use Rattle.field.proofs.Sums.{sum-self, sum-lt}
-use Rattle.signature.specs.Objects.{Octets, lowFirst, symbol}
+use Rattle.signature.specs.Objects.{Octets, lowFirst, lowBytes, symbol}
 
 pub low-first-lt : (size : ℕ) (bytes : List ℕ) (at : ℕ) → Octets bytes → lowFirst size bytes at < 256 ^ size
 unfolding lowFirst
@@ -24,6 +27,25 @@ symbol-element F size wide bytes octets i = lt-of-lt-of-le (low-first-lt size by
 
 pub GF16-symbol : (bytes : List ℕ) → Octets bytes → (i : ℕ) → Element GF16 (symbol 2 bytes i)
 GF16-symbol = symbol-element GF16 2 (le-refl 65536)
+
+-- ---- lists of octets
+
+pub append-octets : (xs ys : List ℕ) → Octets xs → Octets ys → Octets (xs ++ ys)
+append-octets xs ys one other i =
+    dite (decLt i (length xs))
+    (λ (early : i < length xs). rw (List·getD-append xs ys 0 i early) (one i))
+    (λ late.
+    let place : i ≡ length xs + (i - length xs) = omega arith in
+    subst (λ (x : ℕ). x < 256) (sym (ap (λ (k : ℕ). getD (xs ++ ys) k 0) place ∙ getD-append-add xs ys (i - length xs) 0)) (other (i - length xs)))
+
+pub low-bytes-octets : (size x : ℕ) → Octets (lowBytes size x)
+unfolding lowBytes
+low-bytes-octets zero x = λ i. omega arith
+low-bytes-octets (suc size) x = append-octets (x % 256 ∷ []) (lowBytes size (x / 256)) last (low-bytes-octets size (x / 256))
+  where
+    last : Octets (x % 256 ∷ [])
+    last zero = omega arith
+    last (suc i) = omega arith
 
 -- ---- how two objects differ, symbol by symbol
 
