@@ -85,7 +85,7 @@ def maps_stdout():
         text.append((output + b"\xEE" * 40)[:40].hex())
 
     def made(what, n, page, bucket):
-        line(what, f"{len(make(n, page, bucket))} written", make(n, page, bucket))
+        line(what, f"bytes {len(make(n, page, bucket))}", make(n, page, bucket))
 
     made("case 12", 2, 4, bytes.fromhex("010002000300"))
     line("n 0, page 3", "refused 1 0", b"")

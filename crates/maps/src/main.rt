@@ -1,8 +1,6 @@
 // Makes maps, two lines each: the bytes written, or a refusal's number and value, and then the output's first 40 bytes, which were EE hex.
 // The file `stdout` beside this has what they should be, from a program with tables of logarithms.
-use libc::STDOUT_FILENO;
 use units::Bytes;
-use units::Filled;
 
 fn main() {
     case_12();
@@ -12,8 +10,8 @@ fn main() {
 
 fn case_12() {
     let mut output = [0xEE; 40];
-    text(b"case 12: ");
-    answer(map::make(
+    program::text(b"case 12: ");
+    program::filled(map::make(
         2,
         Bytes { count: 4 },
         b"\x01\x00\x02\x00\x03\x00",
@@ -55,7 +53,7 @@ fn edges() {
 fn make(what: &[u8], n: usize, page: usize, bytes: usize, room: usize) {
     let bucket = [0x5A; 65_537];
     let mut output = [0xEE; 45_074];
-    text(what);
+    program::text(what);
     make_of(n, page, &bucket, bytes, &mut output, room);
     held(&output);
 }
@@ -67,7 +65,7 @@ fn make_of(n: usize, page: usize, bucket: &[u8], bytes: usize, output: &mut [u8]
     if room > output.len() {
         return;
     }
-    answer(map::make(
+    program::filled(map::make(
         n,
         Bytes { count: page },
         &bucket[..bytes],
@@ -75,41 +73,8 @@ fn make_of(n: usize, page: usize, bucket: &[u8], bytes: usize, output: &mut [u8]
     ));
 }
 
-fn answer(a: Filled) {
-    match a {
-        Filled::Written(b) => {
-            decimal(b.count);
-            text(b" written\n");
-        }
-        Filled::Refused(r) => {
-            text(b"refused ");
-            decimal(r.number as usize);
-            text(b" ");
-            decimal(r.value);
-            text(b"\n");
-        }
-    }
-}
-
+// The first 40 bytes of an output.
 fn held(output: &[u8]) {
-    let mut i: usize = 0;
-    while i < 40 {
-        if i < output.len() {
-            io::print_hex(STDOUT_FILENO, output[i] as u64, 2);
-        }
-        i += 1;
-    }
-    line_end();
-}
-
-fn line_end() {
-    text(b"\n");
-}
-
-fn decimal(x: usize) {
-    io::print_decimal(STDOUT_FILENO, x as u64);
-}
-
-fn text(t: &[u8]) {
-    io::write_all(STDOUT_FILENO, t);
+    let most = program::within(40, output.len());
+    program::bytes(&output[..most]);
 }

@@ -1,55 +1,22 @@
--- `maps::held` meets its contract: forty bytes at most.
+-- `maps::held` meets its contract: no more than the output has.
 -- Assumes nothing.
-use Prim.Native.Nat.{_-_}
-use native.Mathlib.Omega.{arith}
+use mathlib.Core.Path.{sym}
+use lib.Seq.{length-take-le}
+use borrow.Author.Needs.{needs}
 use Rattle.maps.proofs.held.Statement.{statement}
 use Rattle.maps.proofs.held.Tie as tie
 
-abbrev Inv-loop : tie.InvT-loop
-Inv-loop output i₀ i = Unit {0}
+within-requires : tie.Need-within-requires
+within-requires c κs = search needs
 
-abbrev μ-loop : tie.MeasureT-loop
-μ-loop output i₀ i = 40 - i
+slice-aggregate-bytes : tie.Need-slice-aggregate-bytes
+slice-aggregate-bytes c = sym (length-take-le _ _ (c .before .within .ensures .1))
 
-loop-holds : tie.Need-loop-holds Inv-loop μ-loop
-loop-holds c = tt
+bytes-requires : tie.Need-bytes-requires
+bytes-requires c κs = search needs
 
-shared-slice-read-print-hex : tie.Need-shared-slice-read-print-hex Inv-loop μ-loop
-shared-slice-read-print-hex c = omega arith
-
-cast-print-hex : tie.Need-cast-print-hex Inv-loop μ-loop
-cast-print-hex c = omega (arith, c .before .before .before .before .shared-slice-known .given (c .before .before .before .loop .i) .fits)
-
-print-hex-requires : tie.Need-print-hex-requires Inv-loop μ-loop
-print-hex-requires c κs = tt
-
-add-i : tie.Need-add-i Inv-loop μ-loop
-add-i c = omega arith
-
-loop-less : tie.Need-loop-less Inv-loop μ-loop
-loop-less c = omega arith
-
-loop-again : tie.Need-loop-again Inv-loop μ-loop
-loop-again c = tt
-
-line-end-requires : tie.Need-line-end-requires Inv-loop μ-loop
-line-end-requires c κs = tt
-
-returns : tie.Need-returns Inv-loop μ-loop
-returns c = tt
+returns : tie.Need-returns
+returns c = search needs
 
 pub held-spec : {M : Type 1} → statement M
-held-spec =
-    tie.close
-    (tie.spec
-    Inv-loop
-    μ-loop
-    loop-holds
-    shared-slice-read-print-hex
-    cast-print-hex
-    print-hex-requires
-    add-i
-    loop-less
-    loop-again
-    line-end-requires
-    returns)
+held-spec = tie.close (tie.spec within-requires slice-aggregate-bytes bytes-requires returns)

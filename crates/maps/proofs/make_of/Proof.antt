@@ -24,8 +24,8 @@ slice-aggregate-make-2 c = sym (length-take-le _ _ (c .before .before .if2 .left
 make-requires : tie.Need-make-requires
 make-requires c κs = search needs
 
-answer-requires : tie.Need-answer-requires
-answer-requires c κs = search needs
+filled-requires : tie.Need-filled-requires
+filled-requires c κs = search needs
 
 same-length : tie.Need-same-length
 same-length c = search needs
@@ -43,6 +43,6 @@ make-of-spec =
     slice-relend-prefix-make
     slice-aggregate-make-2
     make-requires
-    answer-requires
+    filled-requires
     same-length
     returns-3)

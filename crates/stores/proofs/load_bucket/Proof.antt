@@ -16,16 +16,16 @@ within-requires-3 : tie.Need-within-requires-3
 within-requires-3 c κs = search needs
 
 slice-aggregate-load-bucket : tie.Need-slice-aggregate-load-bucket
-slice-aggregate-load-bucket c = sym (length-take-le _ _ (c .before .before .within2 .ensures))
+slice-aggregate-load-bucket c = sym (length-take-le _ _ (c .before .before .within2 .ensures .1))
 
 slice-aggregate-load-bucket-2 : tie.Need-slice-aggregate-load-bucket-2
-slice-aggregate-load-bucket-2 c = sym (length-take-le _ _ (c .before .before .within3 .ensures))
+slice-aggregate-load-bucket-2 c = sym (length-take-le _ _ (c .before .before .within3 .ensures .1))
 
 slice-relend-prefix-load-bucket : tie.Need-slice-relend-prefix-load-bucket
 slice-relend-prefix-load-bucket c = search needs
 
 slice-aggregate-load-bucket-3 : tie.Need-slice-aggregate-load-bucket-3
-slice-aggregate-load-bucket-3 c = sym (length-take-le _ _ (c .before .before .before .before .before .within .ensures))
+slice-aggregate-load-bucket-3 c = sym (length-take-le _ _ (c .before .before .before .before .before .within .ensures .1))
 
 load-bucket-requires : tie.Need-load-bucket-requires
 load-bucket-requires c κs = search needs

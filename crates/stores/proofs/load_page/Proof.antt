@@ -13,10 +13,10 @@ within-requires-2 : tie.Need-within-requires-2
 within-requires-2 c κs = search needs
 
 slice-aggregate-ask-page : tie.Need-slice-aggregate-ask-page
-slice-aggregate-ask-page c = sym (length-take-le _ _ (c .before .before .within .ensures))
+slice-aggregate-ask-page c = sym (length-take-le _ _ (c .before .before .within .ensures .1))
 
 slice-aggregate-ask-page-2 : tie.Need-slice-aggregate-ask-page-2
-slice-aggregate-ask-page-2 c = sym (length-take-le _ _ (c .before .before .within2 .ensures))
+slice-aggregate-ask-page-2 c = sym (length-take-le _ _ (c .before .before .within2 .ensures .1))
 
 ask-page-requires : tie.Need-ask-page-requires
 ask-page-requires c κs = search needs
@@ -25,10 +25,10 @@ asked-requires : tie.Need-asked-requires
 asked-requires c κs = search needs
 
 slice-aggregate-load-page : tie.Need-slice-aggregate-load-page
-slice-aggregate-load-page c = sym (length-take-le _ _ (c .before .before .before .before .before .before .within .ensures))
+slice-aggregate-load-page c = sym (length-take-le _ _ (c .before .before .before .before .before .before .within .ensures .1))
 
 slice-aggregate-load-page-2 : tie.Need-slice-aggregate-load-page-2
-slice-aggregate-load-page-2 c = sym (length-take-le _ _ (c .before .before .before .before .before .before .within2 .ensures))
+slice-aggregate-load-page-2 c = sym (length-take-le _ _ (c .before .before .before .before .before .before .within2 .ensures .1))
 
 load-page-requires : tie.Need-load-page-requires
 load-page-requires c κs = search needs

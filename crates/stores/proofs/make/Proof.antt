@@ -13,13 +13,13 @@ within-requires-2 : tie.Need-within-requires-2
 within-requires-2 c κs = search needs
 
 slice-aggregate-make : tie.Need-slice-aggregate-make
-slice-aggregate-make c = sym (length-take-le _ _ (c .before .before .within .ensures))
+slice-aggregate-make c = sym (length-take-le _ _ (c .before .before .within .ensures .1))
 
 slice-relend-prefix-make : tie.Need-slice-relend-prefix-make
 slice-relend-prefix-make c = search needs
 
 slice-aggregate-make-2 : tie.Need-slice-aggregate-make-2
-slice-aggregate-make-2 c = sym (length-take-le _ _ (c .before .before .within2 .ensures))
+slice-aggregate-make-2 c = sym (length-take-le _ _ (c .before .before .within2 .ensures .1))
 
 make-requires : tie.Need-make-requires
 make-requires c κs = search needs

@@ -16,19 +16,19 @@ within-requires-3 : tie.Need-within-requires-3
 within-requires-3 c κs = search needs
 
 slice-aggregate-step : tie.Need-slice-aggregate-step
-slice-aggregate-step c = sym (length-take-le _ _ (c .before .before .before .within .ensures))
+slice-aggregate-step c = sym (length-take-le _ _ (c .before .before .before .within .ensures .1))
 
 slice-relend-prefix-step : tie.Need-slice-relend-prefix-step
 slice-relend-prefix-step c = search needs
 
 slice-aggregate-step-2 : tie.Need-slice-aggregate-step-2
-slice-aggregate-step-2 c = sym (length-take-le _ _ (c .before .before .before .within2 .ensures))
+slice-aggregate-step-2 c = sym (length-take-le _ _ (c .before .before .before .within2 .ensures .1))
 
 slice-relend-prefix-step-2 : tie.Need-slice-relend-prefix-step-2
 slice-relend-prefix-step-2 c = search needs
 
 slice-aggregate-step-3 : tie.Need-slice-aggregate-step-3
-slice-aggregate-step-3 c = sym (length-take-le _ _ (c .before .before .before .within3 .ensures))
+slice-aggregate-step-3 c = sym (length-take-le _ _ (c .before .before .before .within3 .ensures .1))
 
 step-requires : tie.Need-step-requires
 step-requires c κs = search needs
@@ -36,11 +36,11 @@ step-requires c κs = search needs
 stepped-requires : tie.Need-stepped-requires
 stepped-requires c κs = search needs
 
-slice-aggregate-passed : tie.Need-slice-aggregate-passed
-slice-aggregate-passed c = search needs
+slice-aggregate-line : tie.Need-slice-aggregate-line
+slice-aggregate-line c = search needs
 
-passed-requires : tie.Need-passed-requires
-passed-requires c κs = search needs
+line-requires : tie.Need-line-requires
+line-requires c κs = search needs
 
 bytes-requires : tie.Need-bytes-requires
 bytes-requires c κs = search needs
@@ -71,8 +71,8 @@ step-spec =
     slice-aggregate-step-3
     step-requires
     stepped-requires
-    slice-aggregate-passed
-    passed-requires
+    slice-aggregate-line
+    line-requires
     bytes-requires
     bytes-requires-2
     same-length

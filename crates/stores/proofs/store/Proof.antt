@@ -18,26 +18,29 @@ within-requires-3 c κs = search needs
 within-requires-4 : tie.Need-within-requires-4
 within-requires-4 c κs = search needs
 
+slice-aggregate-listed : tie.Need-slice-aggregate-listed
+slice-aggregate-listed c = search needs
+
 slice-aggregate-store : tie.Need-slice-aggregate-store
-slice-aggregate-store c = sym (length-take-le _ _ (c .before .before .before .before .within .ensures))
+slice-aggregate-store c = sym (length-take-le _ _ (c .before .before .before .before .before .within .ensures .1))
 
 slice-relend-prefix-store : tie.Need-slice-relend-prefix-store
 slice-relend-prefix-store c = search needs
 
 slice-aggregate-store-2 : tie.Need-slice-aggregate-store-2
-slice-aggregate-store-2 c = sym (length-take-le _ _ (c .before .before .before .before .within2 .ensures))
+slice-aggregate-store-2 c = sym (length-take-le _ _ (c .before .before .before .before .before .within2 .ensures .1))
 
 slice-relend-prefix-store-2 : tie.Need-slice-relend-prefix-store-2
 slice-relend-prefix-store-2 c = search needs
 
 slice-aggregate-store-3 : tie.Need-slice-aggregate-store-3
-slice-aggregate-store-3 c = sym (length-take-le _ _ (c .before .before .before .before .within3 .ensures))
+slice-aggregate-store-3 c = sym (length-take-le _ _ (c .before .before .before .before .before .within3 .ensures .1))
 
 slice-relend-prefix-store-3 : tie.Need-slice-relend-prefix-store-3
 slice-relend-prefix-store-3 c = search needs
 
 slice-aggregate-store-4 : tie.Need-slice-aggregate-store-4
-slice-aggregate-store-4 c = sym (length-take-le _ _ (c .before .before .before .before .within4 .ensures))
+slice-aggregate-store-4 c = sym (length-take-le _ _ (c .before .before .before .before .before .within4 .ensures .1))
 
 store-requires : tie.Need-store-requires
 store-requires c κs = search needs
@@ -74,6 +77,7 @@ store-spec =
     within-requires-2
     within-requires-3
     within-requires-4
+    slice-aggregate-listed
     slice-aggregate-store
     slice-relend-prefix-store
     slice-aggregate-store-2

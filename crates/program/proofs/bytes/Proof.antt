@@ -1,11 +1,11 @@
--- `stores::bytes` meets its contract: every byte once.
+-- `program::bytes` meets its contract: every byte once.
 -- Assumes nothing.
 use Prim.Native.Nat.{_-_}
 use native.Mathlib.Omega.{arith}
 use lib.ListN.{length}
 use borrow.Author.Needs.{needs}
-use Rattle.stores.proofs.bytes.Statement.{statement}
-use Rattle.stores.proofs.bytes.Tie as tie
+use Rattle.program.proofs.bytes.Statement.{statement}
+use Rattle.program.proofs.bytes.Tie as tie
 
 abbrev Inv-loop : tie.InvT-loop
 Inv-loop b i₀ t3 i = Unit {0}

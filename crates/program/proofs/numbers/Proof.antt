@@ -1,11 +1,11 @@
--- `stores::numbers` meets its contract: every number once.
+-- `program::numbers` meets its contract: every number once.
 -- Assumes nothing.
 use Prim.Native.Nat.{_-_}
 use native.Mathlib.Omega.{arith}
 use lib.ListN.{length}
 use borrow.Author.Needs.{needs}
-use Rattle.stores.proofs.numbers.Statement.{statement}
-use Rattle.stores.proofs.numbers.Tie as tie
+use Rattle.program.proofs.numbers.Statement.{statement}
+use Rattle.program.proofs.numbers.Tie as tie
 
 abbrev Inv-loop : tie.InvT-loop
 Inv-loop l i₀ t3 i = Unit {0}
@@ -16,17 +16,17 @@ abbrev μ-loop : tie.MeasureT-loop
 loop-holds : tie.Need-loop-holds Inv-loop μ-loop
 loop-holds c = tt
 
-slice-aggregate-passed : tie.Need-slice-aggregate-passed Inv-loop μ-loop
-slice-aggregate-passed c = search needs
+slice-aggregate-line : tie.Need-slice-aggregate-line Inv-loop μ-loop
+slice-aggregate-line c = search needs
 
-mul-passed : tie.Need-mul-passed Inv-loop μ-loop
-mul-passed c = search needs
+mul-line : tie.Need-mul-line Inv-loop μ-loop
+mul-line c = search needs
 
-shared-slice-read-passed : tie.Need-shared-slice-read-passed Inv-loop μ-loop
-shared-slice-read-passed c = search needs
+shared-slice-read-line : tie.Need-shared-slice-read-line Inv-loop μ-loop
+shared-slice-read-line c = search needs
 
-passed-requires : tie.Need-passed-requires Inv-loop μ-loop
-passed-requires c κs = search needs
+line-requires : tie.Need-line-requires Inv-loop μ-loop
+line-requires c κs = search needs
 
 add-i : tie.Need-add-i Inv-loop μ-loop
 add-i c = search needs
@@ -47,10 +47,10 @@ numbers-spec =
     Inv-loop
     μ-loop
     loop-holds
-    slice-aggregate-passed
-    mul-passed
-    shared-slice-read-passed
-    passed-requires
+    slice-aggregate-line
+    mul-line
+    shared-slice-read-line
+    line-requires
     add-i
     loop-less
     loop-again
