@@ -2,7 +2,8 @@
 """Writes what the stored runs are fed and what they should print, from the scope's text alone.
 
 Products go by tables of logarithms and exponents, so that no step is the library's.
-Run as: python3 runs/model.py  (from anywhere; it writes runs/maplist, runs/stores, the stdout of crates/maps, and stdin and stdout of crates/stores)
+Run as: python3 runs/model.py  (from anywhere; it writes runs/maplist, runs/stores, runs/captions, the stdout of crates/maps, and stdin and stdout of
+crates/stores and crates/captions)
 """
 import os
 import random
@@ -409,6 +410,207 @@ def stores_runs():
         yield f"random-{seed}", at_random(seed)
 
 
+def symbols(data):
+    return [data[i] | data[i + 1] << 8 for i in range(0, len(data), 2)]
+
+
+def as_bytes(values):
+    return b"".join(v.to_bytes(2, "little") for v in values)
+
+
+def encode(plain):
+    code = 0
+    for k, symbol in enumerate(symbols(plain)):
+        code ^= times_alpha(symbol, k)
+        yield code
+
+
+def decode(code):
+    before = 0
+    for k, symbol in enumerate(symbols(code)):
+        yield times_alpha(symbol ^ before, -k)
+        before = symbol
+
+
+def hits(code, pattern):
+    c, s1, size = symbols(code), component(pattern, 1), len(pattern) // 2
+    for i in range(len(c) - size + 1):
+        if c[i + size - 1] ^ (c[i - 1] if i else 0) == times_alpha(s1, i):
+            yield i
+
+
+def recode_tests(field, room):
+    if len(field) > 65536:
+        raise Refused(3, 0)
+    if len(field) % 2:
+        raise Refused(4, 0)
+    if room < len(field):
+        raise Refused(7, len(field))
+
+
+def search_tests(field, pattern, room):
+    if len(field) > 65536:
+        raise Refused(3, 0)
+    if len(field) % 2 or len(pattern) % 2:
+        raise Refused(4, 0)
+    needed = (len(field) - len(pattern)) // 2 + 1 if 0 < len(pattern) <= len(field) else 0
+    if room < needed:
+        raise Refused(7, needed)
+    if not pattern:
+        raise Refused(8, 0)
+
+
+class Caption:
+    """What the program `captions` prints for a script, and the script."""
+
+    def __init__(self):
+        self.field, self.pattern, self.output, self.list = bytearray(65538), bytearray(200000), bytearray(b"\xEE" * 65538), [99] * 32770
+        self.lent = {"c": 0, "p": 0, "o": 0, "l": 0}
+        self.given, self.text = b"", []
+
+    def prints(self):
+        return "".join(line + "\n" for line in self.text)
+
+    def do(self, letter, number=0):
+        self.given += letter.encode() + number.to_bytes(3, "little")
+        place, high = number % 65536, number // 65536
+        if letter in self.lent:
+            self.lent[letter] = number
+        elif letter in "CP":
+            buffer = self.field if letter == "C" else self.pattern
+            if place < len(buffer):
+                buffer[place] = high
+        elif letter in "FG":
+            buffer = self.field if letter == "F" else self.pattern
+            for i in range(len(buffer)):
+                buffer[i] = high
+                high = (high * 5 + 77) % 256
+        elif letter == "B":
+            self.field[:] = self.output
+        else:
+            getattr(self, "do_" + letter)(bytes(self.field[: self.lent["c"]]))
+
+    def recode(self, field, new):
+        try:
+            recode_tests(field, min(self.lent["o"], 65538))
+            written = as_bytes(new(field))
+            self.output[: len(written)] = written
+            self.text.append(f"bytes {len(written)}")
+        except Refused as r:
+            self.text.append("refused %d %d" % r.args)
+        end = max(0, len(field) - 20)
+        self.text += [self.output[:24].hex(), self.output[end : end + 24].hex()]
+
+    def do_e(self, field):
+        self.recode(field, encode)
+
+    def do_d(self, field):
+        self.recode(field, decode)
+
+    def do_s(self, field):
+        pattern, count = bytes(self.pattern[: self.lent["p"]]), 0
+        try:
+            search_tests(field, pattern, min(self.lent["l"], 32770))
+            places = list(hits(field, pattern))
+            count = len(places)
+            self.list[:count] = places
+            self.text.append(f"places {count}")
+        except Refused as r:
+            self.text.append("refused %d %d" % r.args)
+        end = max(0, count - 4)
+        self.text += map(str, self.list[:6] + self.list[end : end + 6])
+
+    def put(self, field=None, pattern=None):
+        for letter, lent, data in (("C", "c", field), ("P", "p", pattern)):
+            if data is not None:
+                for i, b in enumerate(data):
+                    self.do(letter, i + 65536 * b)
+                self.do(lent, len(data))
+
+
+def captions():
+    s = Caption()
+    s.do("o", 65538)
+    s.do("l", 32770)
+    s.put(b"\1\0\2\0\3\0", b"\2\0\3\0")
+    s.do("e")  # case 9
+    s.do("B")
+    s.do("s")  # case 10
+    s.do("d")
+    s.put(b"\2\0\0\0", b"\0\0\1\0")
+    s.do("e")
+    s.do("B")
+    s.do("s")  # case 11
+    return s
+
+
+def caption_edges():
+    s = Caption()
+    s.do("F", 1 << 16)
+    s.do("G", 1 << 16)
+    for size, room in ((65536, 65536), (65536, 65535), (65535, 0), (65537, 0), (65538, 65538), (65534, 65538), (0, 0), (1, 0), (2, 1)):
+        s.do("c", size)
+        s.do("o", room)
+        s.do("e")
+        s.do("d")
+    for size, pattern, room in (
+        (65536, 65536, 1), (65536, 65536, 0), (65536, 65534, 1), (65536, 65534, 2), (65536, 65538, 0), (65536, 200000, 0), (65536, 199999, 0),
+        (65537, 0, 0), (65537, 1, 0), (65535, 0, 0), (65536, 0, 0), (0, 0, 0), (0, 2, 0), (0, 1, 0), (2, 2, 0), (2, 2, 1), (4, 2, 1),
+    ):  # fmt: skip
+        s.do("c", size)
+        s.do("p", pattern)
+        s.do("l", room)
+        s.do("s")
+    return s
+
+
+def caption_longest():
+    """The bytes come round every 256, so that a pattern of them is found often."""
+    s = Caption()
+    s.do("F", 9 << 16)
+    s.do("G", 9 << 16)
+    s.do("c", 65536)
+    s.do("o", 65536)
+    s.do("l", 32768)
+    s.do("e")
+    s.do("B")
+    for size in (2, 8, 256, 1024, 65280, 65536):
+        s.do("p", size)
+        s.do("s")
+    s.do("P", 9 << 16 | 0)
+    s.do("P", 200 << 16 | 3)
+    s.do("p", 8)
+    s.do("s")
+    s.do("d")
+    return s
+
+
+def caption_random(seed):
+    """Short fields over few symbols, so that patterns are found; a pattern cut from the field, or made up."""
+    chance = random.Random(seed)
+    s = Caption()
+    for _ in range(14):
+        few = [chance.randint(0, 65535) for _ in range(chance.randint(1, 3))]
+        plain = as_bytes(chance.choice(few) for _ in range(chance.randint(0, 20)))[chance.random() < 0.1 :]
+        at, size = chance.randint(0, 20) * 2, chance.randint(0, 4) * 2
+        pattern = plain[at : at + size] if chance.random() < 0.6 else as_bytes(chance.choice(few) for _ in range(chance.randint(0, 3)))
+        s.put(plain, pattern)
+        s.do("o", len(plain) + chance.randint(-1, 6) if plain else 0)
+        s.do("e")
+        s.do("B")
+        s.do("l", chance.choice((len(plain), len(plain), chance.randint(0, 8))))
+        s.do("s")
+        s.do("d")
+    return s
+
+
+def captions_runs():
+    yield "edges", caption_edges()
+    yield "longest", caption_longest()
+    for seed in range(1, 5):
+        yield f"random-{seed}", caption_random(seed)
+
+
 def write(path, content):
     with open(path, "wb") as out:
         out.write(content)
@@ -422,5 +624,10 @@ write(f"{here}/../crates/maps/stdout", maps_stdout().encode())
 for name, script in stores_runs():
     write(f"{here}/stores/{name}.in", script.given)
     write(f"{here}/stores/{name}.out", script.prints().encode())
+for name, script in captions_runs():
+    write(f"{here}/captions/{name}.in", script.given)
+    write(f"{here}/captions/{name}.out", script.prints().encode())
+write(f"{here}/../crates/captions/stdin", captions().given)
+write(f"{here}/../crates/captions/stdout", captions().prints().encode())
 write(f"{here}/../crates/stores/stdin", stores().given)
 write(f"{here}/../crates/stores/stdout", stores().prints().encode())
