@@ -1,6 +1,6 @@
 -- What it means that no test of encode and decode, or of a search, applies: in words of lengths, and back.
 -- Assumes nothing.
-use mathlib.Core.Path.{_≡_}
+use mathlib.Core.Path.{_≡_, sym, ap, _∙_}
 use mathlib.Core.Logic.{_≢_}
 use mathlib.Core.Bool.{and-eq-true-iff}
 use mathlib.Core.List.{List}
@@ -9,12 +9,17 @@ use native.Mathlib.Omega.{arith}
 use lib.ListN.{length}
 use borrow.Author.Tests.{leb-true, eqb-true, eqb-false, ltb-false, not-false, le-leb, eq-eqb, ne-eqb, le-ltb}
 use Rattle.units.specs.Refusals.{first}
-use Rattle.units.specs.declared.Verdict.the-variants.{Allowed}
+use Rattle.units.specs.Filling.{outcome, outcomeOf}
+use Rattle.units.specs.Writing.{written}
+use Rattle.units.specs.declared.Refusal.{Refusal}
+use Rattle.units.specs.declared.Verdict.{Verdict}
+use Rattle.units.specs.declared.Verdict.the-variants.{Allowed, Refused}
+use Rattle.units.specs.declared.Filled.the-variants as Filled
 use Rattle.units.proofs.Refusing.{allowed-when}
 use Rattle.signature.specs.Objects.{symbols}
 use Rattle.signature.specs.Kinds.{wide}
 use Rattle.signature.specs.Operations.{whole}
-use Rattle.caption.specs.Recoding.{recodeTests}
+use Rattle.caption.specs.Recoding.{recodeTests, recoding}
 use Rattle.caption.specs.Searches.{placesFor, searchTests}
 
 -- a field of whole symbols, not too many, and room for as many bytes
@@ -38,6 +43,17 @@ recode-allowed caption output r = simp (le-leb _ _ (r .short), eq-eqb _ _ (r .ev
 -- whole symbols are half as many as bytes
 pub recodable-room : (caption output : List ℕ) → Recodable caption output → symbols 2 caption * 2 ≤ length output
 recodable-room caption output r = omega (arith, r .even, r .fits)
+
+-- what encode and decode answer and leave, from what their tests said
+
+pub recoded : (new caption output after : List ℕ) → first (recodeTests caption output) ≡ Allowed → after ≡ written output 0 new
+    → outcomeOf (Filled.Written (record { count = length caption })) after ≡ recoding new caption output
+recoded new caption output after allowed is =
+    ap (outcomeOf (Filled.Written (record { count = length caption }))) is ∙ sym (ap (λ (v : Verdict). outcome v (length caption) new output) allowed)
+
+pub not-recoded : (new caption output : List ℕ) (r : Refusal) → first (recodeTests caption output) ≡ Refused r
+    → outcomeOf (Filled.Refused r) output ≡ recoding new caption output
+not-recoded new caption output r refused = sym (ap (λ (v : Verdict). outcome v (length caption) new output) refused)
 
 -- a field and a pattern of whole symbols, the field of not too many and the pattern of some, and room for every place
 pub record Searchable (caption pattern list : List ℕ) : Type 0 where

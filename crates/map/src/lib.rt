@@ -76,7 +76,7 @@ fn under_rule(size: usize, map: &[u8], at: usize) -> Field
     requires { ⌜ at + 3 ≤ length (now map) ⌝ }
     ensures { λ r. ⌜ r ≡ underRule (long size) (now (map .entry)) at ⌝ }
 {
-    if two_bytes(map, at + 1) != size {
+    if signature::two_bytes(map, at + 1) != size {
         return Field::Broken;
     }
     let value = at + 3;
@@ -91,21 +91,11 @@ fn under_rule(size: usize, map: &[u8], at: usize) -> Field
 }
 
 // Past the map's end there are zeros.
-fn two_bytes(map: &[u8], at: usize) -> usize
-    requires { ⌜ at + 1 < 2 ^ 64 ⌝ }
-    ensures { λ r. ⌜ r ≡ lowFirst 2 (now (map .entry)) at ⌝ }
-{
-    let second = at + 1;
-    let low = signature::byte(map, Bytes { count: at }) as usize;
-    let high = signature::byte(map, Bytes { count: second }) as usize;
-    low + high * 256
-}
-
 fn four_bytes(map: &[u8], at: usize) -> usize
     requires { ⌜ at + 3 < 2 ^ 64 ⌝ }
     ensures { λ r. ⌜ r ≡ lowFirst 4 (now (map .entry)) at ⌝ }
 {
-    two_bytes(map, at) + two_bytes(map, at + 2) * 65536
+    signature::two_bytes(map, at) + signature::two_bytes(map, at + 2) * 65536
 }
 
 // Whether the field at a place keeps its rule and has the tag that is due there.
@@ -244,5 +234,5 @@ fn component_at(n: usize, j: usize, map: &[u8], at: usize) -> u16
     if n < j {
         return 0;
     }
-    two_bytes(map, at + 1 + 2 * j) as u16
+    signature::two_bytes(map, at + 1 + 2 * j) as u16
 }

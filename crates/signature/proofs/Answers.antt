@@ -9,6 +9,7 @@ use native.Mathlib.Nat.{zero-lt-suc}
 use native.Mathlib.Omega.{arith}
 use lib.ListN.{length}
 use borrow.Author.Tests.{le-leb, lt-leb}
+use denote.Ref.{now}
 use Rattle.units.specs.Sizes.{nAllowed}
 use Rattle.signature.specs.Objects.{Octets, symbols}
 use Rattle.signature.specs.Kinds.{wide}
@@ -23,6 +24,7 @@ use Rattle.signature.proofs.EveryKind as Every
 use Rattle.signature.proofs.sign.Reads as sign
 use Rattle.signature.proofs.join.Reads as join
 use Rattle.signature.proofs.edit.Reads as edit
+use Rattle.signature.proofs.put_two_bytes.Reads as put-two-bytes
 
 -- ---- no second answer meets a contract: `Post` is what the `ensures` says of the inputs a, an answer and what is lent at exit
 
@@ -34,6 +36,9 @@ join-one-answer κs a r s x y p q = p ∙ sym q
 
 pub edit-one-answer : (κs : _) (a : _) (r s : Answer) (x y : _) → edit.Post κs a r x → edit.Post κs a s y → r ≡ s
 edit-one-answer κs a r s x y p q = p ∙ sym q
+
+pub put-two-bytes-one-answer : (κs : _) (a : _) (r s : _) (x y : _) → put-two-bytes.Post κs a r x → put-two-bytes.Post κs a s y → now (x .1 .0) ≡ now (y .1 .0)
+put-two-bytes-one-answer κs a r s x y p q = p ∙ sym q
 
 -- ---- the limits
 

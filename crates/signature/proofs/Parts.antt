@@ -35,15 +35,11 @@ unfolding symbol
 symbol-same size one other i e = low-first-same size one other (i * size) (i * size) e
 
 -- past the end there are zeros
-low-first-past : (size : ℕ) (bytes : List ℕ) (at : ℕ) → length bytes ≤ at → lowFirst size bytes at ≡ 0
+pub low-first-past : (size : ℕ) (bytes : List ℕ) (at : ℕ) → length bytes ≤ at → lowFirst size bytes at ≡ 0
 unfolding lowFirst
 low-first-past zero bytes at past = refl
 low-first-past (suc size) bytes at past =
     ap₂ (λ (x y : ℕ). x + 256 * y) (List·getD-eq-default bytes 0 past) (low-first-past size bytes (suc at) (le-step past))
-
-pub symbol-past : (size : ℕ) (bytes : List ℕ) (i : ℕ) → length bytes ≤ i * size → symbol size bytes i ≡ 0
-unfolding symbol
-symbol-past size bytes i past = low-first-past size bytes (i * size) past
 
 -- c symbols that stand in one list from symbol a on, and at the front of another
 pub symbol-part : (size : ℕ) (one other : List ℕ) (a c : ℕ) → ((k : ℕ) → k < c * size → getD one (a * size + k) 0 ≡ getD other k 0)

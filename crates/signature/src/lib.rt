@@ -6,7 +6,7 @@ ghost use Rattle.units.specs.Sizes.{objectAllowed};
 ghost use Rattle.units.specs.Writing.{partPut};
 ghost use Rattle.field.specs.Field.{GF16, α, _⊕_};
 ghost use Rattle.field.specs.Field.{product as Field·product, power as Field·power};
-ghost use Rattle.signature.specs.Objects.{lowBytes, symbol as Object·symbol, symbols as Object·symbols};
+ghost use Rattle.signature.specs.Objects.{lowFirst, lowBytes, symbol as Object·symbol, symbols as Object·symbols};
 ghost use Rattle.signature.specs.Signatures.{signature as Object·signature, joined, handed, answered, upTo};
 ghost use Rattle.signature.specs.Kinds.{wide};
 ghost use Rattle.signature.specs.Operations.{own as Object·own, signing, joining, editing};
@@ -193,13 +193,19 @@ fn doubled(j: usize, s: u16) -> u16
 pub fn symbol(object: &[u8], at: Symbols) -> u16
     ensures { λ r. ⌜ r ≡ Object·symbol 2 (now (object .entry)) (at .count) ⌝ }
 {
-    let first = units::bytes_of(at).count;
-    if first >= object.len() {
+    two_bytes(object, units::bytes_of(at).count) as u16
+}
+
+// The number that two bytes make, low byte first. Past the end there are zeros.
+pub fn two_bytes(object: &[u8], at: usize) -> usize
+    ensures { λ r. ⌜ r ≡ lowFirst 2 (now (object .entry)) at ⌝ }
+{
+    if at >= object.len() {
         return 0;
     }
-    let second = first + 1;
-    let low = byte(object, Bytes { count: first }) as u16;
-    let high = byte(object, Bytes { count: second }) as u16;
+    let second = at + 1;
+    let low = byte(object, Bytes { count: at }) as usize;
+    let high = byte(object, Bytes { count: second }) as usize;
     low + high * 256
 }
 

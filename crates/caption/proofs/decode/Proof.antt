@@ -1,13 +1,9 @@
 -- `caption::decode` meets its contract: refused, or the plain field written.
 -- Assumes nothing.
-use mathlib.Core.Path.{sym, ap, _∙_}
-use lib.ListN.{length}
+use mathlib.Core.Path.{sym, _∙_}
 use borrow.Author.Needs.{needs}
-use Rattle.units.specs.Filling.{outcome, outcomeOf}
-use Rattle.units.specs.declared.Filled.the-variants.{Written}
-use Rattle.units.specs.declared.Verdict.{Verdict}
 use Rattle.caption.specs.Recoding.{decoded}
-use Rattle.caption.proofs.Allowing.{recodable, recodable-room}
+use Rattle.caption.proofs.Allowing.{recodable, recodable-room, recoded, not-recoded}
 use Rattle.caption.proofs.decode.Statement.{statement}
 use Rattle.caption.proofs.decode.Tie as tie
 
@@ -32,9 +28,7 @@ same-length c = search needs
 returns : tie.Need-returns
 returns c =
     let args : _ = c .before .before .before .before .before .before .before .args in
-    sym
-    (ap (λ (v : Verdict). outcome v (length (args .caption .now)) (decoded 0 (args .caption .now)) (args .output .now))
-    (sym (c .before .before .before .recode-verdict .ensures) ∙ c .before .verdict .given .1))
+    not-recoded (decoded 0 (args .caption .now)) (args .caption .now) (args .output .now) _ (sym (c .before .before .before .recode-verdict .ensures) ∙ c .before .verdict .given .1)
 
 same-length-2 : tie.Need-same-length-2
 same-length-2 c = search needs
@@ -42,10 +36,8 @@ same-length-2 c = search needs
 returns-2 : tie.Need-returns-2
 returns-2 c =
     let args : _ = c .before .before .before .before .before .before .before .before .before .before .args in
-    ap (outcomeOf (Written (record { count = length (args .caption .now) }))) (c .before .before .put-plain .ensures)
-    ∙ sym
-    (ap (λ (v : Verdict). outcome v (length (args .caption .now)) (decoded 0 (args .caption .now)) (args .output .now))
-    (sym (c .before .before .before .before .before .before .recode-verdict .ensures) ∙ c .before .before .before .before .enum-told .given .1))
+    let allowed : _ = sym (c .before .before .before .before .before .before .recode-verdict .ensures) ∙ c .before .before .before .before .enum-told .given .1 in
+    recoded (decoded 0 (args .caption .now)) (args .caption .now) (args .output .now) _ allowed (c .before .before .put-plain .ensures)
 
 pub decode-spec : {M : Type 1} → statement M
 decode-spec =

@@ -1,68 +1,46 @@
--- `signature::symbol` meets its contract: its two bytes are those at twice its place, and past the end it is zero.
+-- `signature::symbol` meets its contract: its two bytes are those at twice its place.
 -- Assumes nothing.
-use mathlib.Core.Path.{_≡_, sym, ap, _∙_}
 use mathlib.Core.List.{List}
-use Prim.Native.Nat.{ℕ, suc, _+_, _*_, _≤_}
-use native.Mathlib.Numerals.{add-one}
+use mathlib.Core.Logic.{dite}
+use mathlib.Core.Path.{_≡_, sym, ap, _∙_}
+use Prim.Native.Nat.{ℕ, _*_, _-_, _^_, _≤_, _<_, min}
 use native.Mathlib.Omega.{arith}
-use lib.ListN.{getD, length}
+use native.Mathlib.Decide.{decLt}
+use lib.ListN.{length}
 use borrow.Author.Needs.{needs}
-use denote.Ref.{now}
 use Rattle.signature.specs.Objects.{symbol, lowFirst}
-use Rattle.signature.proofs.Parts.{symbol-past}
+use Rattle.signature.proofs.Parts.{low-first-past}
+use Rattle.signature.proofs.Octets.{low-first-lt}
 use Rattle.signature.proofs.symbol.Statement.{statement}
 use Rattle.signature.proofs.symbol.Tie as tie
+
+-- where the place was cut off, there is no symbol
+cut-off : (object : List ℕ) (i : ℕ) → length object < 2 ^ 64 → lowFirst 2 object (min (i * 2) (2 ^ 64 - 1)) ≡ symbol 2 object i
+unfolding symbol
+cut-off object i short =
+    dite (decLt (i * 2) (2 ^ 64))
+    (λ (inside : i * 2 < 2 ^ 64). let same : min (i * 2) (2 ^ 64 - 1) ≡ i * 2 = omega arith in ap (lowFirst 2 object) same)
+    (λ past.
+    let one : length object ≤ min (i * 2) (2 ^ 64 - 1) = omega arith in
+    let other : length object ≤ i * 2 = omega arith in
+    low-first-past 2 object _ one ∙ sym (low-first-past 2 object _ other))
 
 bytes-of-requires : tie.Need-bytes-of-requires
 bytes-of-requires c κs = search needs
 
+two-bytes-requires : tie.Need-two-bytes-requires
+two-bytes-requires c κs = search needs
+
+cast-result : tie.Need-cast-result
+cast-result c =
+    let small : lowFirst 2 (c .before .before .before .args .object .now) (c .before .bytes-of .result .count) < 65536 = low-first-lt 2 _ _ (λ k. c .before .before .shared-slice-known .given k .fits) in
+    omega (arith, c .two-bytes .ensures)
+
 returns : tie.Need-returns
 returns c =
-    let past : length (c .before .before .before .args .object .now) ≤ c .before .before .before .args .at .count * 2 = omega arith in
-    sym (symbol-past 2 (c .before .before .before .args .object .now) (c .before .before .before .args .at .count) past)
-
-add-second : tie.Need-add-second
-add-second c = search needs
-
-byte-requires : tie.Need-byte-requires
-byte-requires c κs = search needs
-
-cast-low : tie.Need-cast-low
-cast-low c = search needs
-
-byte-requires-2 : tie.Need-byte-requires-2
-byte-requires-2 c κs = search needs
-
-cast-high : tie.Need-cast-high
-cast-high c = search needs
-
-mul-result : tie.Need-mul-result
-mul-result c = search needs
-
-add-result : tie.Need-add-result
-add-result c = search needs
-
-returns-2 : tie.Need-returns-2
-unfolding symbol lowFirst
-returns-2 c =
-    let object : List ℕ = now (c .before .before .before .before .before .args .object) in
-    let place : c .before .before .before .bytes-of .result .count ≡ c .before .before .before .before .before .args .at .count * 2 = omega arith in
-    let low : c .before .byte .result ≡ getD object (c .before .before .before .before .before .args .at .count * 2) 0 = c .before .byte .ensures ∙ ap (λ (k : ℕ). getD object k 0) place in
-    let high : c .byte2 .result ≡ getD object (suc (c .before .before .before .before .before .args .at .count * 2)) 0 =
-    c .byte2 .ensures ∙ ap (λ (k : ℕ). getD object (k + 1) 0) place ∙ ap (λ (k : ℕ). getD object k 0) (add-one (c .before .before .before .before .before .args .at .count * 2)) in
-    omega arith
+    c .two-bytes .ensures
+    ∙ ap (lowFirst 2 (c .before .before .before .args .object .now)) (c .before .bytes-of .ensures)
+    ∙ cut-off (c .before .before .before .args .object .now) (c .before .before .before .args .at .count) (omega arith)
 
 pub symbol-spec : {M : Type 1} → statement M
-symbol-spec =
-    tie.close
-    (tie.spec
-    bytes-of-requires
-    returns
-    add-second
-    byte-requires
-    cast-low
-    byte-requires-2
-    cast-high
-    mul-result
-    add-result
-    returns-2)
+symbol-spec = tie.close (tie.spec bytes-of-requires two-bytes-requires cast-result returns)
