@@ -12,7 +12,7 @@ pub struct Symbols {
     pub count: usize,
 }
 
-// An exponent of α. Whole rounds of α^65535 = 1 are left out of it.
+// An exponent of α. Whole rounds of α^65535 = 1 need not be kept in it.
 pub struct Exponent {
     pub power: u16,
 }
