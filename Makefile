@@ -3,15 +3,16 @@
 
 demo: kit
 	@mkdir -p target
-	@echo "Proving and building the programs cases, maps, maplist and stores (three minutes from nothing) .."
-	@rt check cases maps maplist stores > target/demo.log 2>&1 || { cat target/demo.log; exit 1; }
+	@echo "Proving and building the programs cases, maplist, stores and captions (three minutes from nothing) .."
+	@rt check cases maplist stores captions > target/demo.log 2>&1 || { cat target/demo.log; exit 1; }
+	@echo "the scope's twelve cases"
 	@target/bin/cases
-	@echo "maps made"
-	@target/bin/maps
 	@echo "the map of case 12, listed"
 	@target/bin/maplist < runs/maplist/case-12.in
 	@echo "two flags of a page changed opposite ways, and stored"
 	@target/bin/stores < crates/stores/stdin
+	@echo "a field encoded, searched and decoded"
+	@target/bin/captions < crates/captions/stdin
 
 test: kit
 	rt fmt --check

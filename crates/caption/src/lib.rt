@@ -82,9 +82,10 @@ fn put_code(caption: &[u8], output: &mut [u8])
     let mut sum: u16 = 0;
     let mut i: usize = 0;
     while i < count {
-        let plain = signature::symbol(caption, Symbols { count: i });
+        let here = Symbols { count: i };
+        let plain = signature::symbol(caption, here);
         sum = field::sum(sum, field::product(plain, weight));
-        signature::put_two_bytes(sum as usize, output, i * 2);
+        signature::put_two_bytes(sum as usize, output, units::bytes_of(here).count);
         weight = field::double(weight);
         i += 1;
     }
@@ -104,7 +105,7 @@ fn put_plain(caption: &[u8], output: &mut [u8])
         let here = Symbols { count: i };
         let weighed = field::sum(signature::symbol(caption, here), previous(caption, here));
         let plain = field::product(weighed, unweight);
-        signature::put_two_bytes(plain as usize, output, i * 2);
+        signature::put_two_bytes(plain as usize, output, units::bytes_of(here).count);
     }
 }
 

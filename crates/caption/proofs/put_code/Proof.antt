@@ -2,7 +2,7 @@
 -- Assumes nothing.
 use mathlib.Core.List.{List}
 use mathlib.Core.Path.{_≡_, refl, sym, ap, ap₂, _∙_}
-use Prim.Native.Nat.{ℕ, suc, _-_, _*_, _≤_, _<_}
+use Prim.Native.Nat.{ℕ, suc, _-_, _*_, _^_, _≤_, _<_}
 use native.Mathlib.Omega.{arith}
 use native.Mathlib.Numerals.{add-one}
 use lib.ListN.{length}
@@ -13,11 +13,10 @@ use Rattle.field.specs.Field.{GF16, _⊕_, product, doubled, α}
 use Rattle.field.proofs.Powers.{power-zero}
 use Rattle.field.proofs.Instances.{GF16-passes, GF16-formed}
 use Rattle.signature.specs.Objects.{symbol, symbols, lowBytes}
-use Rattle.signature.proofs.Numbers.{two-bytes-put}
 use Rattle.caption.specs.Recoding.{bytes, encoded}
 use Rattle.caption.specs.Codes.{previous, coded}
 use Rattle.caption.specs.Codes as Codes
-use Rattle.caption.proofs.Rows.{row-length, row-none, row-up}
+use Rattle.caption.proofs.Rows.{symbol-put, row-length, row-none, row-up}
 use Rattle.caption.proofs.Codes.{code-turn, weight-turn}
 use Rattle.caption.proofs.put_code.Statement.{statement}
 use Rattle.caption.proofs.put_code.Tie as tie
@@ -56,11 +55,8 @@ sum-requires c κs = tt
 cast-put-two-bytes : tie.Need-cast-put-two-bytes Inv-loop μ-loop
 cast-put-two-bytes c = search needs
 
-mul-put-two-bytes : tie.Need-mul-put-two-bytes Inv-loop μ-loop
-mul-put-two-bytes c =
-    let required : _ = c .before .before .before .before .before .before .before .before .before .pre in
-    let at : _ = c .before .before .before .before .before .loop in
-    record { fits = omega (arith, at .inv .0, required) }
+bytes-of-requires : tie.Need-bytes-of-requires Inv-loop μ-loop
+bytes-of-requires c κs = tt
 
 put-two-bytes-requires : tie.Need-put-two-bytes-requires Inv-loop μ-loop
 put-two-bytes-requires c κs = tt
@@ -70,24 +66,26 @@ double-requires c κs = tt
 
 add-i : tie.Need-add-i Inv-loop μ-loop
 add-i c =
-    let required : _ = c .before .before .before .before .before .before .before .before .before .before .before .before .before .pre in
-    let at : _ = c .before .before .before .before .before .before .before .before .before .loop in
+    let required : _ = c .before .before .before .before .before .before .before .before .before .before .before .before .before .before .pre in
+    let at : _ = c .before .before .before .before .before .before .before .before .before .before .loop in
     record { fits = omega (arith, at .inv .0, required) }
 
 loop-less : tie.Need-loop-less Inv-loop μ-loop
-loop-less c = omega (arith, c .before .before .before .before .before .before .before .before .before .before .symbols-in .ensures)
+loop-less c = omega (arith, c .before .before .before .before .before .before .before .before .before .before .before .symbols-in .ensures)
 
 loop-again : tie.Need-loop-again Inv-loop μ-loop
 unfolding code
 loop-again c =
-    let required : _ = c .before .before .before .before .before .before .before .before .before .before .before .before .before .pre in
-    let symbols-in : _ = c .before .before .before .before .before .before .before .before .before .before .symbols-in in
-    let symbol-here : _ = c .before .before .before .before .before .before .before .symbol in
-    let product-here : _ = c .before .before .before .before .before .before .product in
-    let sum : _ = c .before .before .before .before .before .sum in
+    let fitting : length (c .before .before .before .before .before .before .before .before .before .before .before .before .before .before .args .output .now) < 2 ^ 64 = omega arith in
+    let required : _ = c .before .before .before .before .before .before .before .before .before .before .before .before .before .before .pre in
+    let symbols-in : _ = c .before .before .before .before .before .before .before .before .before .before .before .symbols-in in
+    let symbol-here : _ = c .before .before .before .before .before .before .before .before .symbol in
+    let product-here : _ = c .before .before .before .before .before .before .before .product in
+    let sum : _ = c .before .before .before .before .before .before .sum in
+    let bytes-of : _ = c .before .before .before .before .bytes-of in
     let put-two-bytes : _ = c .before .before .before .put-two-bytes in
-    let args : _ = c .before .before .before .before .before .before .before .before .before .before .before .before .before .args in
-    let at : _ = c .before .before .before .before .before .before .before .before .before .loop in
+    let args : _ = c .before .before .before .before .before .before .before .before .before .before .before .before .before .before .args in
+    let at : _ = c .before .before .before .before .before .before .before .before .before .before .loop in
     let caption : List ℕ = args .caption .now in
     let inside : at .i < symbols 2 caption = omega (arith, symbols-in .ensures) in
     let next : sum .result ≡ code caption (at .i) =
@@ -97,7 +95,7 @@ loop-again c =
     let fits : suc (at .i) * 2 ≤ length (args .output .now) = omega (arith, required) in
     let long : length (at .output) ≡ length (args .output .now) = kept-long caption (args .output .now) (at .i) (at .output) (omega arith) (at .inv .3) in
     let put : put-two-bytes .last .1 .0 ≡ written (at .output) (at .i * 2) (lowBytes 2 (sum .result)) =
-    put-two-bytes .ensures ∙ two-bytes-put (sum .result) (at .output) (at .i * 2) (omega arith) in (
+    put-two-bytes .ensures ∙ symbol-put (sum .result) (at .output) (at .i) (bytes-of .result .count) (bytes-of .ensures) (omega arith) (omega arith) in (
       omega arith,
       c .double .ensures ∙ ap (doubled GF16) (at .inv .1) ∙ weight-turn GF16 0 GF16-passes (at .i) ∙ ap (Codes.weight GF16 0) (sym (add-one (at .i))),
       next ∙ ap (previous (code caption)) (sym (add-one (at .i))),
@@ -132,7 +130,7 @@ put-code-spec =
     product-requires
     sum-requires
     cast-put-two-bytes
-    mul-put-two-bytes
+    bytes-of-requires
     put-two-bytes-requires
     double-requires
     add-i

@@ -2,7 +2,7 @@
 -- Assumes nothing.
 use mathlib.Core.List.{List}
 use mathlib.Core.Path.{_≡_, refl, sym, ap, ap₂, _∙_}
-use Prim.Native.Nat.{ℕ, suc, _-_, _*_, _%_, _≤_}
+use Prim.Native.Nat.{ℕ, suc, _-_, _*_, _%_, _^_, _≤_, _<_}
 use native.Mathlib.Omega.{arith}
 use native.Mathlib.Nat.{add-zero}
 use lib.ListN.{length}
@@ -13,11 +13,10 @@ use Rattle.field.proofs.Powers.{α-power}
 use Rattle.field.proofs.Products.{one-product}
 use Rattle.field.proofs.Instances.{GF16-passes, GF16-formed}
 use Rattle.signature.specs.Objects.{symbol, symbols, lowBytes}
-use Rattle.signature.proofs.Numbers.{two-bytes-put}
 use Rattle.caption.specs.Recoding.{bytes, decoded}
 use Rattle.caption.specs.Codes.{previous, plain}
 use Rattle.caption.specs.Codes as Codes
-use Rattle.caption.proofs.Rows.{row-none, row-down}
+use Rattle.caption.proofs.Rows.{symbol-put, row-none, row-down}
 use Rattle.caption.proofs.Codes.{unweight-turn}
 use Rattle.caption.proofs.put_plain.Statement.{statement}
 use Rattle.caption.proofs.put_plain.Tie as tie
@@ -78,11 +77,8 @@ product-requires c κs = tt
 cast-put-two-bytes : tie.Need-cast-put-two-bytes Inv-loop μ-loop
 cast-put-two-bytes c = search needs
 
-mul-put-two-bytes : tie.Need-mul-put-two-bytes Inv-loop μ-loop
-mul-put-two-bytes c =
-    let required : _ = c .before .before .before .before .before .before .before .before .before .before .before .before .before .pre in
-    let at : _ = c .before .before .before .before .before .before .before .loop in
-    record { fits = omega (arith, at .inv .0, required) }
+bytes-of-requires : tie.Need-bytes-of-requires Inv-loop μ-loop
+bytes-of-requires c κs = tt
 
 put-two-bytes-requires : tie.Need-put-two-bytes-requires Inv-loop μ-loop
 put-two-bytes-requires c κs = tt
@@ -93,15 +89,17 @@ loop-less c = omega arith
 loop-again : tie.Need-loop-again Inv-loop μ-loop
 unfolding plainly plain
 loop-again c =
-    let required : _ = c .before .before .before .before .before .before .before .before .before .before .before .before .before .before .before .before .pre in
-    let double : _ = c .before .before .before .before .before .before .before .before .double in
-    let symbol : _ = c .before .before .before .before .before .before .before .symbol in
-    let previous : _ = c .before .before .before .before .before .before .previous in
-    let sum : _ = c .before .before .before .before .before .sum in
-    let product-here : _ = c .before .before .before .before .product in
+    let fitting : length (c .before .before .before .before .before .before .before .before .before .before .before .loop .output) < 2 ^ 64 = omega arith in
+    let required : _ = c .before .before .before .before .before .before .before .before .before .before .before .before .before .before .before .before .before .pre in
+    let double : _ = c .before .before .before .before .before .before .before .before .before .double in
+    let symbol : _ = c .before .before .before .before .before .before .before .before .symbol in
+    let previous : _ = c .before .before .before .before .before .before .before .previous in
+    let sum : _ = c .before .before .before .before .before .before .sum in
+    let product-here : _ = c .before .before .before .before .before .product in
+    let bytes-of : _ = c .before .before .before .bytes-of in
     let put-two-bytes : _ = c .before .before .put-two-bytes in
-    let args : _ = c .before .before .before .before .before .before .before .before .before .before .before .before .before .before .before .before .args in
-    let at : _ = c .before .before .before .before .before .before .before .before .before .before .loop in
+    let args : _ = c .before .before .before .before .before .before .before .before .before .before .before .before .before .before .before .before .before .args in
+    let at : _ = c .before .before .before .before .before .before .before .before .before .before .before .loop in
     let caption : List ℕ = args .caption .now in
     let here : ℕ = at .i - 1 in
     let up : at .i ≡ suc here = omega arith in
@@ -111,7 +109,7 @@ loop-again c =
     product-here .ensures ∙ ap₂ (product GF16) (sum .ensures ∙ ap₂ _⊕_ (symbol .ensures) (previous .ensures)) weight in
     let fits : suc here * 2 ≤ length (at .output) = omega (arith, at .inv .0, at .inv .2, required) in
     let put : put-two-bytes .last .1 .0 ≡ written (at .output) (here * 2) (lowBytes 2 (product-here .result)) =
-    put-two-bytes .ensures ∙ two-bytes-put (product-here .result) (at .output) (here * 2) (omega arith) in (
+    put-two-bytes .ensures ∙ symbol-put (product-here .result) (at .output) here (bytes-of .result .count) (bytes-of .ensures) fits fitting in (
       omega arith,
       weight,
       put-two-bytes .kept .1 .0 ∙ at .inv .2,
@@ -150,7 +148,7 @@ put-plain-spec =
     sum-requires
     product-requires
     cast-put-two-bytes
-    mul-put-two-bytes
+    bytes-of-requires
     put-two-bytes-requires
     loop-less
     loop-again
