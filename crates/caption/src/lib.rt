@@ -10,7 +10,7 @@ ghost use Rattle.units.specs.declared.Verdict.the-variants.{Allowed, Refused};
 ghost use Rattle.field.specs.Field.{_⊕_};
 ghost use Rattle.signature.specs.Objects.{symbol as Object·symbol, symbols as Object·symbols};
 ghost use Rattle.caption.specs.Codes.{previous as Code·previous};
-ghost use Rattle.caption.specs.Recoding.{encoded, decoded, recodeTests, encoding, decoding};
+ghost use Rattle.caption.specs.Recoding.{encoded, decoded, tooLong, recodeTests, encoding, decoding};
 ghost use Rattle.caption.specs.Searches.{found, placesFor, searchedOf, searchUnless, searchTests, searching};
 use units::Bytes;
 use units::Filled;
@@ -54,7 +54,7 @@ pub fn decode(caption: &[u8], output: &mut [u8]) -> Filled
 fn recode_verdict(caption: &[u8], output: &[u8]) -> Verdict
     ensures { λ r. ⌜ r ≡ first (recodeTests (now (caption .entry)) (now (output .entry))) ⌝ }
 {
-    if !units::caption_allowed(signature::symbols_in(caption)) {
+    if too_long(caption) {
         return refused(Refusal::LONG, 0);
     }
     if caption.len() % 2 != 0 {
@@ -64,6 +64,12 @@ fn recode_verdict(caption: &[u8], output: &[u8]) -> Verdict
         return refused(Refusal::ROOM, caption.len());
     }
     Verdict::Allowed
+}
+
+fn too_long(caption: &[u8]) -> bool
+    ensures { λ r. ⌜ r ≡ tooLong (now (caption .entry)) ⌝ }
+{
+    !units::caption_allowed(signature::symbols_in(caption))
 }
 
 fn refused(number: u32, value: usize) -> Verdict
@@ -133,7 +139,7 @@ pub fn search(caption: &[u8], pattern: &[u8], list: &mut [usize]) -> Listed
 fn search_verdict(caption: &[u8], pattern: &[u8], list: &[usize]) -> Verdict
     ensures { λ r. ⌜ r ≡ first (searchTests (now (caption .entry)) (now (pattern .entry)) (now (list .entry))) ⌝ }
 {
-    if !units::caption_allowed(signature::symbols_in(caption)) {
+    if too_long(caption) {
         return refused(Refusal::LONG, 0);
     }
     if caption.len() % 2 != 0 {

@@ -33,7 +33,8 @@ two-bytes-requires c κs = search needs
 
 cast-result : tie.Need-cast-result
 cast-result c =
-    let small : lowFirst 2 (c .before .before .before .args .object .now) (c .before .bytes-of .result .count) < 65536 = low-first-lt 2 _ _ (λ k. c .before .before .shared-slice-known .given k .fits) in
+    let object : List ℕ = c .before .before .before .args .object .now in
+    let small : lowFirst 2 object (c .before .bytes-of .result .count) < 65536 = low-first-lt 2 _ _ (λ k. c .before .before .shared-slice-known .given k .fits) in
     omega (arith, c .two-bytes .ensures)
 
 returns : tie.Need-returns
