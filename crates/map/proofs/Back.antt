@@ -10,7 +10,7 @@ use lib.Seq.{drop-cons, drop-drop, take-add, length-take-le}
 use Rattle.signature.specs.Objects.{Octets, lowBytes}
 use Rattle.signature.proofs.Numbers.{read-written}
 use Rattle.map.specs.Files.{tagged}
-use Rattle.map.proofs.Fields.{Due}
+use Rattle.reader.proofs.Due.{Due}
 
 pub tagged-back : (tag size : ℕ) (bytes : List ℕ) (at : ℕ) → Octets bytes → Due tag size bytes at → (value : List ℕ) → value ≡ take size (drop (at + 3) bytes)
     → tagged tag value ≡ take (3 + size) (drop at bytes)

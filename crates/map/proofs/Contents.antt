@@ -19,11 +19,12 @@ use Rattle.signature.specs.declared.Signature.{Signature}
 use Rattle.signature.proofs.Handing.{answered-within}
 use Rattle.signature.proofs.Numbers.{low-first-after, low-bytes-length, written-read}
 use Rattle.map.specs.Files.{pages, tagged, header, components, entry, entries, file, entryBytes, place}
-use Rattle.map.specs.Reading.{fieldAt, isDue, headerOf, entryTests, told, reading, entryAt}
+use Rattle.reader.specs.Fields.{fieldAt, isDue}
+use Rattle.map.specs.Reading.{headerOf, entryTests, told, reading, entryAt}
 use Rattle.map.specs.declared.Header.{Header}
 use Rattle.map.specs.declared.Entry.{Entry}
 use Rattle.map.specs.declared.Reading.the-variants.{Holds}
-use Rattle.map.proofs.Fields.{due-is}
+use Rattle.reader.proofs.Due.{due-is}
 use Rattle.map.proofs.Entries.{entry-kept, end-kept, due-entry}
 use Rattle.map.proofs.Headers.{Kept, kept-header, entries-decide}
 use Rattle.map.proofs.Tagging.{tagged-length, header-length, components-length, entry-length}

@@ -13,8 +13,9 @@ use Rattle.units.specs.Refusals.{first, MAP}
 use Rattle.units.specs.declared.Verdict.the-variants.{Allowed, Refused}
 use Rattle.units.proofs.Refusing.{Quiet}
 use Rattle.map.specs.Files.{entryBytes}
-use Rattle.map.specs.Reading.{long, rule, fieldAt, isDue, entryTests}
-use Rattle.map.proofs.Fields.{Due, is-due, due-is}
+use Rattle.reader.specs.Fields.{long, rule, fieldAt, isDue}
+use Rattle.map.specs.Reading.{entryTests}
+use Rattle.reader.proofs.Due.{Due, is-due, due-is}
 
 pub entry-rule : (n : ℕ) → n ≤ 4 → rule n 4 ≡ long (2 * n)
 entry-rule n small = let size : bytesIn 2 n ≡ 2 * n = omega arith in ap long size

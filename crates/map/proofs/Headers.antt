@@ -13,7 +13,8 @@ use Rattle.units.specs.declared.Verdict.{Verdict}
 use Rattle.units.specs.declared.Verdict.the-variants.{Allowed, Refused}
 use Rattle.units.proofs.Refusing.{Quiet, allowed-not-refused, allowed-when, first-after, first-before}
 use Rattle.map.specs.Files.{pages, entryBytes}
-use Rattle.map.specs.Reading.{fieldAt, isDue, headerOf, headerTests, entryTests, mapTests, told, reading, nKept, pageKept, bucketKept}
+use Rattle.reader.specs.Fields.{fieldAt, isDue}
+use Rattle.map.specs.Reading.{headerOf, headerTests, entryTests, mapTests, told, reading, nKept, pageKept, bucketKept}
 use Rattle.map.specs.declared.Header.{Header}
 use Rattle.map.specs.declared.Reading.the-variants.{Holds, Breaks}
 use Rattle.map.proofs.Fields.{halves}

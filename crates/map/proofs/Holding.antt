@@ -15,10 +15,12 @@ use Rattle.signature.specs.Objects.{Octets, lowFirst}
 use Rattle.signature.proofs.Handing.{answered-handed, answered-below}
 use Rattle.signature.proofs.Octets.{low-first-lt}
 use Rattle.map.specs.Files.{pages, place, entryBytes}
-use Rattle.map.specs.Reading.{fieldAt, isDue, headerOf, mapTests, reading, entryAt}
+use Rattle.reader.specs.Fields.{fieldAt, isDue}
+use Rattle.map.specs.Reading.{headerOf, mapTests, reading, entryAt}
 use Rattle.map.specs.declared.Header.{Header}
 use Rattle.map.specs.declared.Reading.the-variants.{Holds}
-use Rattle.map.proofs.Fields.{Due, halves, bucket-due}
+use Rattle.reader.proofs.Due.{Due}
+use Rattle.map.proofs.Fields.{halves, bucket-due}
 use Rattle.map.proofs.Entries.{entry-due, quiet-due, quiet-end}
 use Rattle.map.proofs.Headers.{Kept, told-holds, n-small}
 use Rattle.map.proofs.Contents.{Sized, Held}

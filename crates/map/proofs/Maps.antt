@@ -10,6 +10,7 @@ use native.Mathlib.Omega.{arith}
 use denote.Ref.{now}
 use lib.ListN.{length, take, drop}
 use borrow.Author.Tests.{le-ltb}
+use Rattle.units.specs.Answers.{OneAnswer}
 use Rattle.units.specs.Counts.{pagesIn}
 use Rattle.units.specs.Sizes.{pageAllowed, bucketAllowed}
 use Rattle.units.specs.Refusals.{first}
@@ -29,11 +30,11 @@ use Rattle.signature.proofs.Handing.{answered-handed}
 use Rattle.signature.proofs.EveryKind.{wide-sound, own-below}
 use Rattle.map.specs.Buckets.{pageAt}
 use Rattle.map.specs.Files.{pages, place, entryBytes}
-use Rattle.map.specs.Reading.{fieldAt, isDue, headerOf, mapTests, entryTests, told, reading, entryAt}
+use Rattle.reader.specs.Fields.{fieldAt, isDue}
+use Rattle.map.specs.Reading.{headerOf, mapTests, entryTests, told, reading, entryAt}
 use Rattle.map.specs.Making.{madeEntry, madeHeader, made, needed, makeTests, making}
 use Rattle.map.specs.declared.Header.{Header}
 use Rattle.map.specs.declared.Entry.{Entry}
-use Rattle.map.specs.declared.Field.{Field}
 use Rattle.map.specs.declared.Reading.{Reading}
 use Rattle.map.specs.declared.Reading.the-variants.{Holds, Breaks}
 use Rattle.map.proofs.Entries.{entry-kept, entry-broken, end-broken}
@@ -41,8 +42,9 @@ use Rattle.map.proofs.Headers.{Kept, kept-header, entries-decide, told-
 use Rattle.map.proofs.MadeMaps.{next-place}
 use Rattle.map.proofs.Contents.{Sized, Held, file-read, file-length, entry-read}
 use Rattle.map.proofs.Octets.{page-octets}
-use Rattle.map.proofs.field_at.Reads as field-at
+use Rattle.map.proofs.pages.Reads as pages-of
 use Rattle.map.proofs.read.Reads as read
+use Rattle.map.proofs.making.component.Reads as component
 use Rattle.map.proofs.making.make.Reads as make
 use Rattle.map.proofs.entry_at.Reads as entry-at
 use Rattle.map.proofs.making.put_entry.Reads as put-entry
@@ -50,17 +52,20 @@ use Rattle.map.proofs.making.page_at.Reads as page-at
 
 -- ---- no second answer meets a contract, and what is lent ends as one list
 
-pub field-at-one-answer : (κs : _) (a : _) (r s : Field) (x y : _) → field-at.Post κs a r x → field-at.Post κs a s y → r ≡ s
-field-at-one-answer κs a r s x y p q = p ∙ sym q
+pub pages-one-answer : OneAnswer pages-of.Post
+pages-one-answer κs a r s x y p q = p ∙ sym q
 
-pub read-one-answer : (κs : _) (a : _) (r s : Reading) (x y : _) → read.Post κs a r x → read.Post κs a s y → r ≡ s
+pub component-one-answer : OneAnswer component.Post
+component-one-answer κs a r s x y p q = p ∙ sym q
+
+pub read-one-answer : OneAnswer read.Post
 read-one-answer κs a r s x y p q = p ∙ sym q
 
 pub make-one-answer : (κs : _) (a : _) (r s : Filled) (x y : _) → make.Post κs a r x → make.Post κs a s y
     → (r ≡ s) × (now (x .1 .1 .1 .0) ≡ now (y .1 .1 .1 .0))
 make-one-answer κs a r s x y p q = let same : _ = p ∙ sym q in (ap (λ o. o .answer) same, ap (λ o. o .output) same)
 
-pub entry-at-one-answer : (κs : _) (a : _) (r s : Entry) (x y : _) → entry-at.Post κs a r x → entry-at.Post κs a s y → r ≡ s
+pub entry-at-one-answer : OneAnswer entry-at.Post
 entry-at-one-answer κs a r s x y p q = p ∙ sym q
 
 pub put-entry-one-answer : (κs : _) (a : _) (r s : _) (x y : _) → put-entry.Post κs a r x → put-entry.Post κs a s y → now (x .1 .0) ≡ now (y .1 .0)

@@ -10,7 +10,7 @@ use lib.Seq.{getD-at}
 use Rattle.signature.specs.Objects.{lowFirst, lowBytes}
 use Rattle.signature.proofs.Numbers.{low-first-after, low-bytes-length, written-read}
 use Rattle.map.specs.Files.{tagged}
-use Rattle.map.proofs.Fields.{Due}
+use Rattle.reader.proofs.Due.{Due}
 use Rattle.map.proofs.Tagging.{tagged-length}
 
 module _ (front : List ℕ) (at tag size : ℕ) (value rest : List ℕ) (before : length front ≡ at) (sized : length value ≡ size) where

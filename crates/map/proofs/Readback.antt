@@ -18,10 +18,12 @@ use Rattle.signature.specs.Signatures.{handed, answered}
 use Rattle.signature.proofs.Handing.{handed-answered}
 use Rattle.signature.proofs.Numbers.{read-written}
 use Rattle.map.specs.Files.{pages, tagged, header, components, entry, file, entryBytes, place}
-use Rattle.map.specs.Reading.{fieldAt, isDue, headerOf, mapTests, reading, entryAt}
+use Rattle.reader.specs.Fields.{fieldAt, isDue}
+use Rattle.map.specs.Reading.{headerOf, mapTests, reading, entryAt}
 use Rattle.map.specs.declared.Header.{Header}
 use Rattle.map.specs.declared.Reading.the-variants.{Holds}
-use Rattle.map.proofs.Fields.{Due, n-due, page-due, bucket-due}
+use Rattle.reader.proofs.Due.{Due}
+use Rattle.map.proofs.Fields.{n-due, page-due, bucket-due}
 use Rattle.map.proofs.Entries.{entry-due, quiet-due, quiet-end}
 use Rattle.map.proofs.Headers.{Kept, told-holds, n-small}
 use Rattle.map.proofs.Holding.{quiet-kept}

@@ -13,10 +13,11 @@ ghost use Rattle.units.specs.Refusals.{first};
 ghost use Rattle.signature.specs.Objects.{lowFirst};
 ghost use Rattle.signature.specs.Signatures.{upTo};
 ghost use Rattle.map.specs.Files.{pages as Header·pages, place as File·place};
-ghost use Rattle.map.specs.Reading.{fieldAt, underRule, long, isDue, headerOf, headerTests, entryTests, told, reading, entryAt};
+ghost use Rattle.reader.specs.Fields.{fieldAt, isDue};
+ghost use Rattle.map.specs.Reading.{headerOf, headerTests, entryTests, told, reading, entryAt};
+use reader::Field;
 use signature::Signature;
 use units::Bytes;
-use units::Symbols;
 
 // The three fields before the first entry.
 pub const HEADER_BYTES: usize = 18;
@@ -33,61 +34,10 @@ pub struct Entry {
     pub signature: Signature,
 }
 
-// A field that keeps its tag's rule: where its value stands, and where the next field begins.
-pub struct Tagged {
-    pub tag: u8,
-    pub value: usize,
-    pub next: usize,
-}
-
-pub enum Field {
-    Formed(Tagged),
-    Broken,
-}
-
 pub enum Reading {
     Holds(Header),
     // the place of the first break
     Breaks(usize),
-}
-
-// The field whose tag stands at a place, in a map of n components.
-pub fn field_at(n: usize, map: &[u8], at: usize) -> Field
-    ensures { λ r. ⌜ r ≡ fieldAt n (now (map .entry)) at ⌝ }
-{
-    if map.len() < 3 {
-        return Field::Broken;
-    }
-    if at > map.len() - 3 {
-        return Field::Broken;
-    }
-    let tag = map[at];
-    match tag {
-        0 => Field::Broken,
-        1 => under_rule(1, map, at),
-        2 | 3 => under_rule(4, map, at),
-        4 => under_rule(units::bytes_of(Symbols { count: n }).count, map, at),
-        5..=255 => Field::Broken,
-    }
-}
-
-// The field by its rule: the length due, and a value that is not cut off.
-fn under_rule(size: usize, map: &[u8], at: usize) -> Field
-    requires { ⌜ at + 3 ≤ length (now map) ⌝ }
-    ensures { λ r. ⌜ r ≡ underRule (long size) (now (map .entry)) at ⌝ }
-{
-    if signature::two_bytes(map, at + 1) != size {
-        return Field::Broken;
-    }
-    let value = at + 3;
-    if size > map.len() - value {
-        return Field::Broken;
-    }
-    Field::Formed(Tagged {
-        tag: map[at],
-        value,
-        next: value + size,
-    })
 }
 
 // Past the map's end there are zeros.
@@ -102,7 +52,7 @@ fn four_bytes(map: &[u8], at: usize) -> usize
 fn due(tag: u8, n: usize, map: &[u8], at: usize) -> bool
     ensures { λ r. ⌜ r ≡ isDue tag (fieldAt n (now (map .entry)) at) ⌝ }
 {
-    let Field::Formed(f) = field_at(n, map, at) else {
+    let Field::Formed(f) = reader::read_field(n, map, at) else {
         return false;
     };
     f.tag == tag

@@ -2,12 +2,12 @@
 -- Assumes nothing.
 use mathlib.Core.Path.{sym, ap, _∙_}
 use borrow.Author.Needs.{needs}
-use Rattle.map.specs.Reading.{isDue}
+use Rattle.reader.specs.Fields.{isDue}
 use Rattle.map.proofs.due.Statement.{statement}
 use Rattle.map.proofs.due.Tie as tie
 
-field-at-requires : tie.Need-field-at-requires
-field-at-requires c κs = search needs
+read-field-requires : tie.Need-read-field-requires
+read-field-requires c κs = search needs
 
 enum-known-f : tie.Need-enum-known-f
 enum-known-f c = search needs
@@ -16,10 +16,10 @@ enum-told : tie.Need-enum-told
 enum-told c = search needs
 
 returns : tie.Need-returns
-returns c = sym (ap (isDue (c .before .before .before .before .args .tag)) (sym (c .before .before .field-at .ensures) ∙ c .enum-told .given .1))
+returns c = sym (ap (isDue (c .before .before .before .before .args .tag)) (sym (c .before .before .read-field .ensures) ∙ c .enum-told .given .1))
 
 returns-2 : tie.Need-returns-2
-returns-2 c = sym (ap (isDue (c .before .before .before .before .before .before .args .tag)) (sym (c .before .before .before .before .field-at .ensures) ∙ c .before .before .f .given .1))
+returns-2 c = sym (ap (isDue (c .before .before .before .before .before .before .args .tag)) (sym (c .before .before .before .before .read-field .ensures) ∙ c .before .before .f .given .1))
 
 pub due-spec : {M : Type 1} → statement M
-due-spec = tie.close (tie.spec field-at-requires enum-known-f enum-told returns returns-2)
+due-spec = tie.close (tie.spec read-field-requires enum-known-f enum-told returns returns-2)

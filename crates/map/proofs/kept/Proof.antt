@@ -4,7 +4,7 @@ use mathlib.Core.Path.{_≡_, sym, _∙_}
 use mathlib.Core.Bool.{true, false}
 use borrow.Author.Needs.{needs}
 use borrow.Author.Tests.{not-true, not-false}
-use Rattle.map.specs.Reading.{fieldAt, isDue}
+use Rattle.reader.specs.Fields.{fieldAt, isDue}
 use Rattle.map.proofs.kept.Statement.{statement}
 use Rattle.map.proofs.kept.Tie as tie
 

@@ -7,10 +7,11 @@ use native.Mathlib.Omega.{arith}
 use borrow.Author.Tests.{not-true, not-false}
 use Rattle.units.specs.Refusals.{first}
 use Rattle.units.specs.declared.Verdict.{Verdict}
-use Rattle.map.specs.Reading.{fieldAt, isDue, entryTests, told}
+use Rattle.reader.specs.Fields.{fieldAt, isDue}
+use Rattle.map.specs.Reading.{entryTests, told}
 use Rattle.map.specs.Files.{pages}
 use Rattle.map.proofs.Entries.{entry-kept, entry-broken, end-kept, end-broken, entry-due}
-use Rattle.map.proofs.Fields.{Due, is-due}
+use Rattle.reader.proofs.Due.{Due, is-due}
 use Rattle.map.proofs.read_entries.Statement.{statement}
 use Rattle.map.proofs.read_entries.Tie as tie
 

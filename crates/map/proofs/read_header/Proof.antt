@@ -7,7 +7,8 @@ use Prim.Native.Nat.{ℕ}
 use borrow.Author.Needs.{needs}
 use borrow.Author.Tests.{not-true, not-false}
 use Rattle.units.specs.Sizes.{nAllowed, pageAllowed, bucketAllowed}
-use Rattle.map.specs.Reading.{fieldAt, isDue, nKept, pageKept, bucketKept}
+use Rattle.reader.specs.Fields.{fieldAt, isDue}
+use Rattle.map.specs.Reading.{nKept, pageKept, bucketKept}
 use Rattle.map.specs.Files.{pages}
 use Rattle.map.specs.declared.Reading.the-variants.{Holds}
 use Rattle.map.specs.declared.Header.{Header}

@@ -1,4 +1,4 @@
--- `map::under_rule` meets its contract: each return is the rule at the tests that led there.
+-- `reader::under_rule` meets its contract: each return is the rule at the tests that led there.
 -- Assumes nothing.
 use mathlib.Core.Path.{_≡_, sym, _∙_}
 use mathlib.Core.Bool.{true, false}
@@ -9,8 +9,8 @@ use lib.ListN.{length}
 use borrow.Author.Needs.{needs}
 use borrow.Author.Tests.{eq-eqb, ne-eqb, le-leb, lt-leb}
 use Rattle.signature.specs.Objects.{lowFirst}
-use Rattle.map.proofs.under_rule.Statement.{statement}
-use Rattle.map.proofs.under_rule.Tie as tie
+use Rattle.reader.proofs.under_rule.Statement.{statement}
+use Rattle.reader.proofs.under_rule.Tie as tie
 
 add-two-bytes : tie.Need-add-two-bytes
 add-two-bytes c = search needs

@@ -1,4 +1,4 @@
--- `map::field_at` meets its contract: by its tag, the field is what its rule says, or is refused.
+-- `reader::field_at` meets its contract: by its tag, the field is what its rule says, or is refused.
 -- Assumes nothing.
 use mathlib.Core.Path.{_≡_, refl, sym, ap, _∙_}
 use mathlib.Core.List.{List}
@@ -8,9 +8,9 @@ use lib.ListN.{length, getD}
 use borrow.Author.Needs.{needs}
 use borrow.Author.Tests.{le-leb, lt-leb}
 use Rattle.units.specs.Counts.{bytesIn}
-use Rattle.map.specs.Reading.{Rule, rule, long, none, underRule, fieldAt}
-use Rattle.map.proofs.field_at.Statement.{statement}
-use Rattle.map.proofs.field_at.Tie as tie
+use Rattle.reader.specs.Fields.{Rule, rule, long, none, underRule, fieldAt}
+use Rattle.reader.proofs.field_at.Statement.{statement}
+use Rattle.reader.proofs.field_at.Tie as tie
 
 -- where tag and length are there, the field is what its tag's rule says
 ruled : (n : ℕ) (bytes : List ℕ) (at : ℕ) → at + 3 ≤ length bytes → (r : Rule) → rule n (getD bytes at 0) ≡ r → fieldAt n bytes at ≡ underRule r bytes at

@@ -1,0 +1,3 @@
+-- What the contracts of `reader` cite.
+pub mod Fields
+pub mod Readers

@@ -1,0 +1,25 @@
+-- A reader holds the bytes of a map and its place, and a call takes off one field.
+use mathlib.Core.List.{List}
+use Prim.Native.Nat.{ℕ}
+use denote.Ref.{RefT, now}
+use Rattle.reader.specs.Fields.{fieldAt, behind}
+use Rattle.reader.specs.declared.Field.{Field}
+use Rattle.reader.specs.declared.Reader.{Reader}
+
+-- a reader of these bytes, at a place
+abbrev pub readerAt : RefT (List ℕ) → ℕ → Reader
+readerAt bytes place = record { bytes = bytes; place = place }
+
+-- what a call answers, and the reader when it returns
+pub record Advanced : Type 0 where
+  pub field : Field
+  pub reader : Reader
+
+abbrev pub advancedOf : Field → Reader → Advanced
+advancedOf field reader = record { field = field; reader = reader }
+
+-- the field at its place, and the same bytes at the place behind it
+abbrev pub advancing : ℕ → Reader → Advanced
+advancing n r =
+    let field : Field = fieldAt n (now (r .bytes)) (r .place) in
+    advancedOf field (readerAt (r .bytes) (behind (r .place) field))
