@@ -2,12 +2,13 @@
 -- Assumes nothing.
 use mathlib.Core.Path.{_≡_, sym, _∙_}
 use mathlib.Core.Bool.{Bool}
+use Rattle.units.specs.Answers.{OneAnswer}
 use Rattle.backup.specs.declared.Opening.{Opening}
 use Rattle.backup.proofs.same.Reads as same
 use Rattle.backup.proofs.«open».Reads as opens
 
-pub open-one-answer : (κs : _) (a : _) (r s : Opening) (x y : _) → opens.Post κs a r x → opens.Post κs a s y → r ≡ s
+pub open-one-answer : OneAnswer opens.Post
 open-one-answer κs a r s x y p q = p ∙ sym q
 
-pub same-one-answer : (κs : _) (a : _) (r s : Bool) (x y : _) → same.Post κs a r x → same.Post κs a s y → r ≡ s
+pub same-one-answer : OneAnswer same.Post
 same-one-answer κs a r s x y p q = p ∙ sym q

@@ -9,3 +9,4 @@ pub mod Tests
 pub mod Orders
 pub mod Instances
 pub mod Laws
+pub mod Answers

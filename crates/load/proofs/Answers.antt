@@ -9,6 +9,7 @@ use native.Mathlib.Omega.{arith}
 use lib.ListN.{length}
 use borrow.Author.Tests.{leb-false}
 use denote.Ref.{now}
+use Rattle.units.specs.Answers.{OneAnswer}
 use Rattle.units.specs.Filling.{outcome, told}
 use Rattle.units.specs.Refusals.{first}
 use Rattle.units.specs.declared.Bytes.{Bytes}
@@ -39,7 +40,7 @@ use Rattle.load.proofs.load_page.Reads as load-page
 pub load-page-one-answer : (κs : _) (a : _) (r s : _) (x y : _) → load-page.Post κs a r x → load-page.Post κs a s y → now r ≡ now s
 load-page-one-answer κs a r s x y p q = p ∙ sym q
 
-pub ask-page-one-answer : (κs : _) (a : _) (r s : Verdict) (x y : _) → ask-page.Post κs a r x → ask-page.Post κs a s y → r ≡ s
+pub ask-page-one-answer : OneAnswer ask-page.Post
 ask-page-one-answer κs a r s x y p q = p ∙ sym q
 
 pub load-bucket-one-answer : (κs : _) (a : _) (r s : Filled) (x y : _) → load-bucket.Post κs a r x → load-bucket.Post κs a s y

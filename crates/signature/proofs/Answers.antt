@@ -10,6 +10,7 @@ use native.Mathlib.Omega.{arith}
 use lib.ListN.{length}
 use borrow.Author.Tests.{le-leb, lt-leb}
 use denote.Ref.{now}
+use Rattle.units.specs.Answers.{OneAnswer}
 use Rattle.units.specs.Sizes.{nAllowed}
 use Rattle.signature.specs.Objects.{Octets, symbols}
 use Rattle.signature.specs.Kinds.{wide}
@@ -24,18 +25,38 @@ use Rattle.signature.proofs.EveryKind as Every
 use Rattle.signature.proofs.sign.Reads as sign
 use Rattle.signature.proofs.join.Reads as join
 use Rattle.signature.proofs.edit.Reads as edit
+use Rattle.signature.proofs.symbols_in.Reads as symbols-in
+use Rattle.signature.proofs.own.Reads as own-of
+use Rattle.signature.proofs.symbol.Reads as symbol
+use Rattle.signature.proofs.two_bytes.Reads as two-bytes
+use Rattle.signature.proofs.byte.Reads as byte
 use Rattle.signature.proofs.put_two_bytes.Reads as put-two-bytes
 
--- ---- no second answer meets a contract: `Post` is what the `ensures` says of the inputs a, an answer and what is lent at exit
+-- ---- no second answer meets a contract
 
-pub sign-one-answer : (κs : _) (a : _) (r s : Answer) (x y : _) → sign.Post κs a r x → sign.Post κs a s y → r ≡ s
+pub sign-one-answer : OneAnswer sign.Post
 sign-one-answer κs a r s x y p q = p ∙ sym q
 
-pub join-one-answer : (κs : _) (a : _) (r s : Answer) (x y : _) → join.Post κs a r x → join.Post κs a s y → r ≡ s
+pub join-one-answer : OneAnswer join.Post
 join-one-answer κs a r s x y p q = p ∙ sym q
 
-pub edit-one-answer : (κs : _) (a : _) (r s : Answer) (x y : _) → edit.Post κs a r x → edit.Post κs a s y → r ≡ s
+pub edit-one-answer : OneAnswer edit.Post
 edit-one-answer κs a r s x y p q = p ∙ sym q
+
+pub symbols-in-one-answer : OneAnswer symbols-in.Post
+symbols-in-one-answer κs a r s x y p q = λ i. record { count = (p ∙ sym q) i }
+
+pub own-one-answer : OneAnswer own-of.Post
+own-one-answer κs a r s x y p q = p ∙ sym q
+
+pub symbol-one-answer : OneAnswer symbol.Post
+symbol-one-answer κs a r s x y p q = p ∙ sym q
+
+pub two-bytes-one-answer : OneAnswer two-bytes.Post
+two-bytes-one-answer κs a r s x y p q = p ∙ sym q
+
+pub byte-one-answer : OneAnswer byte.Post
+byte-one-answer κs a r s x y p q = p ∙ sym q
 
 pub put-two-bytes-one-answer : (κs : _) (a : _) (r s : _) (x y : _) → put-two-bytes.Post κs a r x → put-two-bytes.Post κs a s y → now (x .1 .0) ≡ now (y .1 .0)
 put-two-bytes-one-answer κs a r s x y p q = p ∙ sym q

@@ -6,3 +6,4 @@ pub mod Writing
 pub mod Runs
 pub mod Filling
 pub mod Naming
+pub mod Answers
