@@ -1,4 +1,5 @@
-// What the programs share: a part of a buffer that is lent, and what they print.
+// What the programs share: a part of a buffer that is lent, and what they print. A function that prints answers nothing, and its contract says so: what was
+// printed is compared when the program is run.
 ghost use mathlib.Core.Path.{_≡_};
 ghost use Prim.Native.Nat.{_≤_, min};
 use libc::STDOUT_FILENO;
@@ -19,29 +20,39 @@ pub fn within(x: usize, most: usize) -> usize
     x
 }
 
-pub fn text(t: &[u8]) {
+pub fn text(t: &[u8])
+    ensures { λ r. ⌜ r ≡ tt ⌝ }
+{
     io::write_all(STDOUT_FILENO, t);
 }
 
-pub fn decimal(x: usize) {
+pub fn decimal(x: usize)
+    ensures { λ r. ⌜ r ≡ tt ⌝ }
+{
     io::print_decimal(STDOUT_FILENO, x as u64);
 }
 
 // What a line is about.
-pub fn about(what: &[u8]) {
+pub fn about(what: &[u8])
+    ensures { λ r. ⌜ r ≡ tt ⌝ }
+{
     text(what);
     text(b": ");
 }
 
 // A line of a word and a number.
-pub fn line(word: &[u8], x: usize) {
+pub fn line(word: &[u8], x: usize)
+    ensures { λ r. ⌜ r ≡ tt ⌝ }
+{
     text(word);
     decimal(x);
     text(b"\n");
 }
 
 // A line of bytes, two hex digits each.
-pub fn bytes(b: &[u8]) {
+pub fn bytes(b: &[u8])
+    ensures { λ r. ⌜ r ≡ tt ⌝ }
+{
     let mut i: usize = 0;
     while i < b.len() {
         io::print_hex(STDOUT_FILENO, b[i] as u64, 2);
@@ -51,7 +62,9 @@ pub fn bytes(b: &[u8]) {
 }
 
 // A line for each number.
-pub fn numbers(l: &[usize]) {
+pub fn numbers(l: &[usize])
+    ensures { λ r. ⌜ r ≡ tt ⌝ }
+{
     let mut i: usize = 0;
     while i < l.len() {
         line(b"", l[i]);
@@ -59,13 +72,17 @@ pub fn numbers(l: &[usize]) {
     }
 }
 
-pub fn refused(r: Refusal) {
+pub fn refused(r: Refusal)
+    ensures { λ r. ⌜ r ≡ tt ⌝ }
+{
     text(b"refused ");
     decimal(r.number as usize);
     line(b" ", r.value);
 }
 
-pub fn filled(a: Filled) {
+pub fn filled(a: Filled)
+    ensures { λ r. ⌜ r ≡ tt ⌝ }
+{
     match a {
         Filled::Written(b) => line(b"bytes ", b.count),
         Filled::Refused(r) => refused(r),
@@ -73,7 +90,9 @@ pub fn filled(a: Filled) {
 }
 
 // The word says what was counted.
-pub fn listed(word: &[u8], a: Listed) {
+pub fn listed(word: &[u8], a: Listed)
+    ensures { λ r. ⌜ r ≡ tt ⌝ }
+{
     match a {
         Listed::Numbers(count) => line(word, count),
         Listed::Refused(r) => refused(r),
@@ -81,7 +100,9 @@ pub fn listed(word: &[u8], a: Listed) {
 }
 
 // What a load of a page would say.
-pub fn asked(v: Verdict) {
+pub fn asked(v: Verdict)
+    ensures { λ r. ⌜ r ≡ tt ⌝ }
+{
     match v {
         Verdict::Allowed => text(b"loaded\n"),
         Verdict::Refused(r) => refused(r),
@@ -89,12 +110,16 @@ pub fn asked(v: Verdict) {
 }
 
 // Signs, and prints the answer.
-pub fn sign(what: &[u8], n: usize, object: &[u8]) {
+pub fn sign(what: &[u8], n: usize, object: &[u8])
+    ensures { λ r. ⌜ r ≡ tt ⌝ }
+{
     about(what);
     signed(signature::sign(n, object));
 }
 
-pub fn signed(a: Answer) {
+pub fn signed(a: Answer)
+    ensures { λ r. ⌜ r ≡ tt ⌝ }
+{
     match a {
         Answer::Signed(s) => components(s),
         Answer::Refused(r) => refused(r),
