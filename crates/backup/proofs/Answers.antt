@@ -1,9 +1,7 @@
 -- No second answer meets the contracts of `backup`.
 -- Assumes nothing.
-use mathlib.Core.Path.{_≡_, sym, _∙_}
-use mathlib.Core.Bool.{Bool}
+use mathlib.Core.Path.{sym, _∙_}
 use Rattle.units.specs.Answers.{OneAnswer}
-use Rattle.backup.specs.declared.Opening.{Opening}
 use Rattle.backup.proofs.same.Reads as same
 use Rattle.backup.proofs.«open».Reads as opens
 

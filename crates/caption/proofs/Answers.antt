@@ -1,7 +1,7 @@
 -- What is promised of encode, decode and search: no second answer, refusals exactly when the table says, and what a call that is not refused answers
 -- and leaves.
 -- Assumes nothing.
-use mathlib.Core.Path.{_≡_, sym, ap, _∙_}
+use mathlib.Core.Path.{_≡_, refl, sym, ap, _∙_}
 use mathlib.Core.Logic.{_↔_}
 use mathlib.Core.Bool.{and-false}
 use mathlib.Core.List.{List, []}
@@ -13,6 +13,7 @@ use borrow.Author.Tests.{lt-leb, le-leb, ne-eqb}
 use denote.Ref.{now}
 use Rattle.units.specs.Refusals.{first}
 use Rattle.units.specs.Filling.{outcome, told}
+use Rattle.units.specs.Naming.{told as Listed·told}
 use Rattle.units.specs.Writing.{written}
 use Rattle.units.specs.declared.Filled.{Filled}
 use Rattle.units.specs.declared.Listed.{Listed}
@@ -23,7 +24,7 @@ use Rattle.units.specs.declared.Listed.the-variants as Listed
 use Rattle.units.specs.declared.Verdict.the-variants as Verdict
 use Rattle.units.proofs.Filling.{filling-refused, filling-refused-keeps, filling-puts, filling-keeps-after}
 use Rattle.units.proofs.Naming.{named-none}
-use Rattle.units.proofs.Refusing.{Lowest, lowest-given}
+use Rattle.units.proofs.Refusing.{Lowest, told-lowest}
 use Rattle.units.proofs.Writing.{written-none, written-inside, written-after}
 use Rattle.signature.specs.Objects.{Octets, symbols}
 use Rattle.caption.specs.Recoding.{encoded, decoded, recodeTests, recoding, encoding, decoding}
@@ -109,22 +110,18 @@ module _ (e : ℕ) (caption output again : List ℕ) (octets : Octets caption) (
 -- ---- a search
 
 module _ (e : ℕ) (caption pattern list : List ℕ) where
-  search-told : (v : Verdict) (r : Refusal) → searchUnless v (found e caption pattern) list .answer ≡ Listed.Refused r → v ≡ Verdict.Refused r
-  search-told Verdict.Allowed r p = absurd (numbers-not-refused p)
-    where
-      numbers-not-refused : Listed.Numbers (length (found e caption pattern)) ≡ Listed.Refused r → ⊥
-      numbers-not-refused p = let z : _≡_ {A = ℕ} 0 1 = cc in omega arith
-  search-told (Verdict.Refused s) r p = let same : s ≡ r = cc in ap Verdict.Refused same
+  search-told : (v : Verdict) → Listed·told (searchUnless v (found e caption pattern) list .answer) ≡ v
+  search-told Verdict.Allowed = refl
+  search-told (Verdict.Refused r) = refl
 
-  pub search-refused : (r : Refusal) → (searching e caption pattern list .answer ≡ Listed.Refused r) ↔ Lowest (searchTests caption pattern list) r
-  search-refused r = (
-    λ p. lowest-given (searchTests caption pattern list) tt r .0 (search-told (first (searchTests caption pattern list)) r p),
-    λ g. ap (λ (v : Verdict). searchUnless v (found e caption pattern) list .answer) (lowest-given (searchTests caption pattern list) tt r .1 g),
-  )
+  search-is : Listed·told (searching e caption pattern list .answer) ≡ first (searchTests caption pattern list)
+  search-is = search-told (first (searchTests caption pattern list))
 
-  pub search-refused-keeps : (r : Refusal) → searching e caption pattern list .answer ≡ Listed.Refused r → searching e caption pattern list .list ≡ list
-  search-refused-keeps r p =
-      ap (λ (v : Verdict). searchUnless v (found e caption pattern) list .list) (search-told (first (searchTests caption pattern list)) r p)
+  pub search-refused : (r : Refusal) → (Listed·told (searching e caption pattern list .answer) ≡ Verdict.Refused r) ↔ Lowest (searchTests caption pattern list) r
+  search-refused r = told-lowest _ (searchTests caption pattern list) search-is tt r
+
+  pub search-refused-keeps : (r : Refusal) → Listed·told (searching e caption pattern list .answer) ≡ Verdict.Refused r → searching e caption pattern list .list ≡ list
+  search-refused-keeps r p = ap (λ (v : Verdict). searchUnless v (found e caption pattern) list .list) (sym search-is ∙ p)
 
   module _ (s : Searchable caption pattern list) where
     search-leaves : searching e caption pattern list ≡ searchedOf (Listed.Numbers (length (found e caption pattern))) (written list 0 (found e caption pattern))

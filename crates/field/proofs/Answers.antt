@@ -1,6 +1,6 @@
 -- No second answer meets the contracts of `field`.
 -- Assumes nothing.
-use mathlib.Core.Path.{_≡_, sym, _∙_}
+use mathlib.Core.Path.{sym, _∙_}
 use Rattle.units.specs.Answers.{OneAnswer}
 use Rattle.field.proofs.sum.Reads as sum
 use Rattle.field.proofs.double.Reads as double

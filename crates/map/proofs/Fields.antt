@@ -1,7 +1,7 @@
 -- The header's fields, as they stand where their rules are kept.
 -- Assumes nothing.
 use mathlib.Core.Path.{_≡_, refl}
-use mathlib.Core.Bool.{Bool, true, false, _&&_, and-eq-true-iff}
+use mathlib.Core.Bool.{Bool, true, _&&_, and-eq-true-iff}
 use mathlib.Core.List.{List}
 use Prim.Native.Nat.{ℕ}
 use Rattle.reader.proofs.Due.{Due, is-due}

@@ -25,7 +25,6 @@ use Rattle.units.proofs.Filling.{filling-refused, filling-refused-keeps, fillin
 use Rattle.signature.specs.Objects.{Octets}
 use Rattle.signature.specs.Signatures.{signature}
 use Rattle.signature.specs.Kinds.{wide}
-use Rattle.signature.specs.Operations.{own}
 use Rattle.signature.proofs.Handing.{answered-handed}
 use Rattle.signature.proofs.EveryKind.{wide-sound, own-below}
 use Rattle.map.specs.Buckets.{pageAt}
@@ -34,8 +33,6 @@ use Rattle.reader.specs.Fields.{fieldAt, isDue}
 use Rattle.map.specs.Reading.{headerOf, mapTests, entryTests, told, reading, entryAt}
 use Rattle.map.specs.Making.{madeEntry, madeHeader, made, needed, makeTests, making}
 use Rattle.map.specs.declared.Header.{Header}
-use Rattle.map.specs.declared.Entry.{Entry}
-use Rattle.map.specs.declared.Reading.{Reading}
 use Rattle.map.specs.declared.Reading.the-variants.{Holds, Breaks}
 use Rattle.map.proofs.Entries.{entry-kept, entry-broken, end-broken}
 use Rattle.map.proofs.Headers.{Kept, kept-header, entries-decide, told-breaks, told-holds, map-number}

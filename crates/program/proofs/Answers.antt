@@ -1,6 +1,6 @@
 -- No second answer meets the contract of the one function of `program` that answers something.
 -- Assumes nothing.
-use mathlib.Core.Path.{_≡_, sym, _∙_}
+use mathlib.Core.Path.{sym, _∙_}
 use Rattle.units.specs.Answers.{OneAnswer}
 use Rattle.program.proofs.within.Reads as within
 

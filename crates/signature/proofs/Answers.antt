@@ -17,7 +17,6 @@ use Rattle.signature.specs.Kinds.{wide}
 use Rattle.signature.specs.Operations.{own, signing, joining, editing}
 use Rattle.signature.specs.Differences.{differing}
 use Rattle.signature.specs.Edits.{Edited}
-use Rattle.signature.specs.declared.Answer.{Answer}
 use Rattle.signature.specs.declared.Answer.the-variants.{Signed, Refused}
 use Rattle.signature.proofs.Parts.{whole-length}
 use Rattle.signature.proofs.Edited.{part-edited, end-edited}

@@ -17,7 +17,7 @@ use Rattle.units.specs.declared.Verdict.the-variants as Verdict
 use Rattle.units.specs.Counts.{symbolsIn}
 use Rattle.units.specs.Sizes.{nAllowed}
 use Rattle.units.specs.Refusals.{Test, first}
-use Rattle.units.proofs.Refusing.{Lowest, ascending, lowest-given}
+use Rattle.units.proofs.Refusing.{Lowest, ascending, told-lowest}
 use Rattle.field.specs.Field.{_⊕_, product, power, α, order}
 use Rattle.field.proofs.Tests.{Passes, formed}
 use Rattle.field.proofs.Instances.{GF16-passes}
@@ -54,8 +54,7 @@ told-unless Verdict.Allowed s = refl
 told-unless (Verdict.Refused r) s = refl
 
 refused-when : (ts : List Test) → T (ascending ts) → (s : Signature) (r : Refusal) → (told (decided ts s) ≡ Verdict.Refused r) ↔ Lowest ts r
-refused-when ts up s r =
-    (λ p. lowest-given ts up r .0 (sym (told-unless (first ts) s) ∙ p), λ g. told-unless (first ts) s ∙ lowest-given ts up r .1 g)
+refused-when ts up s r = told-lowest _ ts (told-unless (first ts) s) up r
 
 -- ---- components above n are zero in every answer
 

@@ -8,6 +8,7 @@ use Prim.Native.Nat.{ℕ}
 use native.Mathlib.Omega.{arith}
 use lib.Dec.{eqb}
 use denote.Ref.{now}
+use Rattle.units.specs.Naming.{told as Listed·told}
 use Rattle.units.specs.Refusals.{first}
 use Rattle.units.specs.declared.Listed.{Listed}
 use Rattle.units.specs.declared.Listed.the-variants.{Numbers}
@@ -15,17 +16,17 @@ use Rattle.units.specs.declared.Listed.the-variants as Listed
 use Rattle.units.specs.declared.Refusal.{Refusal}
 use Rattle.units.specs.declared.Verdict.{Verdict}
 use Rattle.units.specs.declared.Verdict.the-variants as Verdict
-use Rattle.units.proofs.Refusing.{Lowest, lowest-given}
+use Rattle.units.proofs.Refusing.{Lowest, told-lowest}
 use Rattle.map.specs.Files.{pages}
 use Rattle.map.specs.Reading.{headerOf, entryAt}
 use Rattle.map.specs.declared.Header.{Header}
 use Rattle.backup.specs.Backups.{agrees}
-use Rattle.store.specs.Steps.{Stepped, staying, passing, stepUnless, stepTests, stepping}
+use Rattle.store.specs.Steps.{Stepped, told, staying, passing, stepUnless, stepTests, stepping}
 use Rattle.store.specs.Stores.{storedOf, storeUnless, storeTests, storing}
 use Rattle.store.specs.declared.Answer.the-variants.{Finished, Refused}
 use Rattle.store.specs.declared.Place.{Place}
 use Rattle.store.specs.declared.Step.{Step}
-use Rattle.store.proofs.Tags.{told-not-refused, told-not-finished, finished-not-refused}
+use Rattle.store.proofs.Tags.{page-told, told-not-finished}
 use Rattle.store.proofs.Place.step.Reads as step
 use Rattle.store.proofs.store.Reads as store
 
@@ -48,23 +49,20 @@ module _ (h : Header) (table image map : List ℕ) (place : Place) where
   onward : Bool → Stepped
   onward b = cond b (staying Finished place image map) (passing h table image map (place .page))
 
-  onward-told : (b : Bool) (r : Refusal) → onward b .answer ≡ Refused r → ⊥
+  onward-told : (b : Bool) → told (onward b .answer) ≡ Verdict.Allowed
   unfolding onward passing
-  onward-told true r e = finished-not-refused r e
-  onward-told false r e = told-not-refused (place .page) (agrees h (entryAt (h .n) map) table (place .page)) r e
+  onward-told true = refl
+  onward-told false = page-told (place .page) (agrees h (entryAt (h .n) map) table (place .page))
 
   onward-finished : (b : Bool) → onward b .answer ≡ Finished → onward b ≡ staying Finished place image map
   unfolding onward passing
   onward-finished true e = refl
   onward-finished false e = absurd (told-not-finished (place .page) (agrees h (entryAt (h .n) map) table (place .page)) e)
 
-  step-told : (v : Verdict) (r : Refusal) → stepUnless v h table image map place .answer ≡ Refused r → v ≡ Verdict.Refused r
+  step-told : (v : Verdict) → told (stepUnless v h table image map place .answer) ≡ v
   unfolding onward
-  step-told Verdict.Allowed r e = absurd (onward-told (eqb (place .page) (pages h)) r e)
-  step-told (Verdict.Refused s) r e = ap Verdict.Refused (same s r e)
-    where
-      same : (a b : Refusal) → Refused a ≡ Refused b → a ≡ b
-      same a b q = cc
+  step-told Verdict.Allowed = onward-told (eqb (place .page) (pages h))
+  step-told (Verdict.Refused r) = refl
 
   step-finished : (v : Verdict) → stepUnless v h table image map place .answer ≡ Finished → stepUnless v h table image map place ≡ staying Finished place image map
   unfolding onward
@@ -72,18 +70,16 @@ module _ (h : Header) (table image map : List ℕ) (place : Place) where
   step-finished (Verdict.Refused s) e = let z : _≡_ {A = ℕ} 0 1 = cc in absurd (omega arith)
 
 module _ (table image map : List ℕ) (place : Place) where
-  pub step-refused : (r : Refusal) → (stepping table image map place .answer ≡ Refused r) ↔ Lowest (stepTests table image map (place .page)) r
+  step-is : told (stepping table image map place .answer) ≡ first (stepTests table image map (place .page))
   unfolding stepping
-  step-refused r = (
-    λ e. lowest-given (stepTests table image map (place .page)) tt r .0 (step-told (headerOf map) table image map place (first (stepTests table image map (place .page))) r e),
-    λ g.
-        ap (λ (v : Verdict). stepUnless v (headerOf map) table image map place .answer) (lowest-given (stepTests table image map (place .page)) tt r .1 g),
-  )
+  step-is = step-told (headerOf map) table image map place (first (stepTests table image map (place .page)))
 
-  pub step-refused-keeps : (r : Refusal) → stepping table image map place .answer ≡ Refused r → stepping table image map place ≡ staying (Refused r) place image map
+  pub step-refused : (r : Refusal) → (told (stepping table image map place .answer) ≡ Verdict.Refused r) ↔ Lowest (stepTests table image map (place .page)) r
+  step-refused r = told-lowest _ (stepTests table image map (place .page)) step-is tt r
+
+  pub step-refused-keeps : (r : Refusal) → told (stepping table image map place .answer) ≡ Verdict.Refused r → stepping table image map place ≡ staying (Refused r) place image map
   unfolding stepping
-  step-refused-keeps r e =
-      ap (λ (v : Verdict). stepUnless v (headerOf map) table image map place) (step-told (headerOf map) table image map place (first (stepTests table image map (place .page))) r e)
+  step-refused-keeps r e = ap (λ (v : Verdict). stepUnless v (headerOf map) table image map place) (sym step-is ∙ e)
 
   pub step-finished-keeps : stepping table image map place .answer ≡ Finished → stepping table image map place ≡ staying Finished place image map
   unfolding stepping
@@ -92,29 +88,22 @@ module _ (table image map : List ℕ) (place : Place) where
 -- ---- a store's
 
 module _ (table image map list : List ℕ) where
-  pub store-told : (v : Verdict) (h : Header) (r : Refusal) → storeUnless v h table image map list .answer ≡ Listed.Refused r → v ≡ Verdict.Refused r
-  store-told Verdict.Allowed h r e = let z : _≡_ {A = ℕ} 0 1 = cc in absurd (omega arith)
-  store-told (Verdict.Refused s) h r e = ap Verdict.Refused (same s r e)
-    where
-      same : (a b : Refusal) → Listed.Refused a ≡ Listed.Refused b → a ≡ b
-      same a b q = cc
+  store-told : (v : Verdict) (h : Header) → Listed·told (storeUnless v h table image map list .answer) ≡ v
+  store-told Verdict.Allowed h = refl
+  store-told (Verdict.Refused r) h = refl
 
-  store-counts : (v : Verdict) (h : Header) (count : ℕ) → storeUnless v h table image map list .answer ≡ Numbers count → v ≡ Verdict.Allowed
-  store-counts Verdict.Allowed h count e = refl
-  store-counts (Verdict.Refused s) h count e = let z : _≡_ {A = ℕ} 0 1 = cc in absurd (omega arith)
-
-  pub store-refused : (r : Refusal) → (storing table image map list .answer ≡ Listed.Refused r) ↔ Lowest (storeTests table image map list) r
+  pub store-is : Listed·told (storing table image map list .answer) ≡ first (storeTests table image map list)
   unfolding storing
-  store-refused r = (
-    λ e. lowest-given (storeTests table image map list) tt r .0 (store-told (first (storeTests table image map list)) (headerOf map) r e),
-    λ g. ap (λ (v : Verdict). storeUnless v (headerOf map) table image map list .answer) (lowest-given (storeTests table image map list) tt r .1 g),
-  )
+  store-is = store-told (first (storeTests table image map list)) (headerOf map)
 
-  pub store-refused-keeps : (r : Refusal) → storing table image map list .answer ≡ Listed.Refused r → storing table image map list ≡ storedOf (Listed.Refused r) image map list
+  pub store-refused : (r : Refusal) → (Listed·told (storing table image map list .answer) ≡ Verdict.Refused r) ↔ Lowest (storeTests table image map list) r
+  store-refused r = told-lowest _ (storeTests table image map list) store-is tt r
+
+  pub store-refused-keeps : (r : Refusal) → Listed·told (storing table image map list .answer) ≡ Verdict.Refused r
+      → storing table image map list ≡ storedOf (Listed.Refused r) image map list
   unfolding storing
-  store-refused-keeps r e = ap (λ (v : Verdict). storeUnless v (headerOf map) table image map list) (store-told (first (storeTests table image map list)) (headerOf map) r e)
+  store-refused-keeps r e = ap (λ (v : Verdict). storeUnless v (headerOf map) table image map list) (sym store-is ∙ e)
 
   -- a store that answers a count was allowed
   pub store-allowed : (count : ℕ) → storing table image map list .answer ≡ Numbers count → first (storeTests table image map list) ≡ Verdict.Allowed
-  unfolding storing
-  store-allowed count e = store-counts _ (headerOf map) count e
+  store-allowed count e = sym store-is ∙ ap Listed·told e

@@ -9,8 +9,8 @@ use native.Mathlib.Omega.{arith}
 use denote.Enum.Declared.{tagOf}
 use types.Run.{OneOf}
 use Rattle.units.specs.declared.Listed.the-variants.{Numbers}
-use Rattle.units.specs.declared.Refusal.{Refusal}
-use Rattle.store.specs.Steps.{pageAnswer}
+use Rattle.units.specs.declared.Verdict.the-variants as Verdict
+use Rattle.store.specs.Steps.{told, pageAnswer}
 use Rattle.store.specs.Stores.{endedBy}
 use Rattle.store.specs.declared.Answer.{Answer}
 use Rattle.store.specs.declared.Answer.the-variants.{Kept, Written, Finished, Refused}
@@ -51,9 +51,6 @@ module _ (k : ℕ) where
   told-not-finished true e = let z : _≡_ {A = ℕ} 0 1 = cc in omega arith
   told-not-finished false e = let z : _≡_ {A = ℕ} 0 1 = cc in omega arith
 
-  pub told-not-refused : (b : Bool) (r : Refusal) → pageAnswer k b ≡ Refused r → ⊥
-  told-not-refused true r e = let z : _≡_ {A = ℕ} 0 1 = cc in omega arith
-  told-not-refused false r e = let z : _≡_ {A = ℕ} 0 1 = cc in omega arith
-
-pub finished-not-refused : (r : Refusal) → Finished ≡ Refused r → ⊥
-finished-not-refused r e = let z : _≡_ {A = ℕ} 0 1 = cc in omega arith
+  pub page-told : (b : Bool) → told (pageAnswer k b) ≡ Verdict.Allowed
+  page-told true = refl
+  page-told false = refl

@@ -11,7 +11,6 @@ use native.Mathlib.Omega.{arith}
 use lib.ListN.{length, set}
 use borrow.Author.Tests.{le-ltb, eq-eqb, ne-eqb}
 use types.Run.{OneOf}
-use Rattle.units.specs.Writing.{written}
 use Rattle.units.specs.declared.Listed.the-variants.{Numbers}
 use Rattle.units.specs.declared.Verdict.{Verdict}
 use Rattle.units.proofs.Noting as Noting

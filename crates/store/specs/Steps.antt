@@ -26,6 +26,13 @@ pub record Stepped : Type 0 where
 abbrev pub steppedOf : Step → List ℕ → List ℕ → Stepped
 steppedOf s image map = record { answer = s .answer; next = s .next; image = image; map = map }
 
+-- what the table says of an answer
+abbrev pub told : Answer → Verdict
+told (Kept k) = Verdict.Allowed
+told (Written k) = Verdict.Allowed
+told Finished = Verdict.Allowed
+told (Refused r) = Verdict.Refused r
+
 -- what is said of page k
 abbrev pub pageAnswer : ℕ → Bool → Answer
 pageAnswer k kept = cond kept (Kept k) (Written k)

@@ -1,7 +1,7 @@
 -- Steps from place 0 to finished do what the whole store does, in image, map and pages written.
 -- Assumes nothing.
 use mathlib.Core.Path.{_≡_, refl, sym, ap, ap₂, _∙_, subst}
-use mathlib.Core.Logic.{_≢_, ⊎-elim}
+use mathlib.Core.Logic.{⊎-elim}
 use mathlib.Core.Bool.{Bool, true, false, not, cond}
 use mathlib.Core.List.{List, [], _∷_, _++_}
 use Prim.Native.Nat.{ℕ, zero, suc, _≤_, _<_}
@@ -10,7 +10,7 @@ use native.Mathlib.Omega.{arith}
 use lib.Dec.{ltb}
 use lib.ListN.{length}
 use Rattle.units.specs.Filling.{room}
-use Rattle.units.specs.Naming.{named}
+use Rattle.units.specs.Naming.{named, told as Listed·told}
 use Rattle.units.specs.Refusals.{Test, first, gives, ROOM, PAGENO}
 use Rattle.units.specs.Writing.{written}
 use Rattle.units.specs.declared.Listed.the-variants.{Numbers}
@@ -28,13 +28,13 @@ use Rattle.map.specs.declared.Reading.the-variants.{Holds}
 use Rattle.backup.specs.Backups.{agrees, changed}
 use Rattle.backup.specs.Openings.{mapTest, matchTest}
 use Rattle.backup.proofs.Opened.{Usable}
-use Rattle.store.specs.Steps.{pageAnswer, stepUnless, openStep, stepping}
+use Rattle.store.specs.Steps.{told, pageAnswer, stepUnless, openStep, stepping}
 use Rattle.store.specs.Stores.{Stored, storeTests, storing}
 use Rattle.store.specs.declared.Answer.the-variants.{Finished, Refused}
 use Rattle.store.specs.declared.Place.{Place}
 use Rattle.store.specs.declared.Step.{Step}
-use Rattle.store.proofs.Answers.{store-told}
-use Rattle.store.proofs.Tags.{told-not-refused, finished-not-refused}
+use Rattle.store.proofs.Answers.{store-is}
+use Rattle.store.proofs.Tags.{page-told}
 use Rattle.store.proofs.Underway.{Ready, Through, Passed, Done, taken, none-through, through-reads, through-length, step-opens}
 use Rattle.stored.specs.Walks.{Walk, Same, writtenBy, walked, walkTo, outset}
 use Rattle.stored.proofs.Mirroring.{store-usable, store-leaves, store-counts}
@@ -84,11 +84,11 @@ module _ (h : Header) (table image map : List ℕ) (ready : Ready h table image 
         (λ (d : Done ready (r .through) {s = step} opens). d .told)
         (taken ready (r .through) {s = step} opens)
 
-    allowed : (why : Refusal) → stepping table (w .image) (w .map) (w .place) .answer ≡ Refused why → ⊥
-    allowed why e =
+    allowed : told (stepping table (w .image) (w .map) (w .place) .answer) ≡ Verdict.Allowed
+    allowed =
         ⊎-elim
-        (λ (p : Passed ready (r .through) {s = step} opens). told-not-refused m (agrees h (entryAt (h .n) map) table m) why (sym (p .told) ∙ e))
-        (λ (d : Done ready (r .through) {s = step} opens). finished-not-refused why (sym (d .told) ∙ e))
+        (λ (p : Passed ready (r .through) {s = step} opens). ap told (p .told) ∙ page-told m (agrees h (entryAt (h .n) map) table m))
+        (λ (d : Done ready (r .through) {s = step} opens). ap told (d .told))
         (taken ready (r .through) {s = step} opens)
 
   reached : (m : ℕ) → m ≤ pages h → Reached m (walked table (outset image map) m)
@@ -123,11 +123,11 @@ steps-are-the-store h table image map list table-octets map-octets holds count a
 -- where the store is not refused, no step up to finished is
 pub no-step-refused : (h : Header) (table image map list : List ℕ) → Octets table → Octets map → reading map ≡ Holds h
     → (count : ℕ) → storing table image map list .answer ≡ Numbers count
-    → (m : ℕ) → m ≤ pages h → (why : Refusal)
-    → stepping table (walked table (outset image map) m .image) (walked table (outset image map) m .map) (walked table (outset image map) m .place) .answer ≢ Refused why
-no-step-refused h table image map list table-octets map-octets holds count answer m most why =
+    → (m : ℕ) → m ≤ pages h
+    → told (stepping table (walked table (outset image map) m .image) (walked table (outset image map) m .map) (walked table (outset image map) m .place) .answer) ≡ Verdict.Allowed
+no-step-refused h table image map list table-octets map-octets holds count answer m most =
     let ready : Ready h table image map = store-ready h table image map list table-octets map-octets holds count answer in
-    allowed h table image map ready m (walked table (outset image map) m) (reached h table image map ready m most) why
+    allowed h table image map ready m (walked table (outset image map) m) (reached h table image map ready m most)
 
 -- the third of three tests does not decide
 first-two : (t u v w : Test) (r : Refusal) → first (t ∷ u ∷ v ∷ []) ≡ Verdict.Refused r → (v .refusal ≡ r → ⊥) → first (t ∷ u ∷ w ∷ []) ≡ Verdict.Refused r
@@ -140,12 +140,12 @@ first-two t u v w r e other = at (t .applies) (u .applies) (v .applies) refl ref
     at false false false p q z = absurd (allowed-not-refused r (simp (p, q, z) at e))
 
 -- and where it is refused for anything but the list's room, the first step is refused with the same
-pub first-step-refused : (table image map list : List ℕ) (r : Refusal) → storing table image map list .answer ≡ Listed.Refused r → (r .number ≡ ROOM → ⊥)
-    → stepping table image map (record { page = 0 }) .answer ≡ Refused r
-unfolding storing stepping
+pub first-step-refused : (table image map list : List ℕ) (r : Refusal) → Listed·told (storing table image map list .answer) ≡ Verdict.Refused r → (r .number ≡ ROOM → ⊥)
+    → told (stepping table image map (record { page = 0 }) .answer) ≡ Verdict.Refused r
+unfolding stepping
 first-step-refused table image map list r e other =
     let h : Header = headerOf map in
-    let why : first (storeTests table image map list) ≡ Verdict.Refused r = store-told table image map list (first (storeTests table image map list)) h r e in
-    ap (λ (v : Verdict). stepUnless v h table image map (record { page = 0 }) .answer)
+    let why : first (storeTests table image map list) ≡ Verdict.Refused r = sym (store-is table image map list) ∙ e in
+    ap (λ (v : Verdict). told (stepUnless v h table image map (record { page = 0 }) .answer))
     (first-two (mapTest map) (matchTest (length table) (length image) h) (room (pages h) list) (gives PAGENO (ltb (pages h) 0)) r why
     (λ q. other (sym (ap (λ (x : Refusal). x .number) q))))

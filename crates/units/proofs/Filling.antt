@@ -15,7 +15,7 @@ use Rattle.units.specs.Filling.{outcome, filling, told}
 use Rattle.units.specs.declared.Refusal.{Refusal}
 use Rattle.units.specs.declared.Verdict.{Verdict}
 use Rattle.units.specs.declared.Verdict.the-variants.{Allowed, Refused}
-use Rattle.units.proofs.Refusing.{Lowest, ascending, lowest-given, allowed-not-refused}
+use Rattle.units.proofs.Refusing.{Lowest, ascending, told-lowest, allowed-not-refused}
 use Rattle.units.proofs.Writing.{written-inside, written-after}
 
 module _ (size : ℕ) (new output : List ℕ) where
@@ -29,9 +29,7 @@ module _ (size : ℕ) (new output : List ℕ) where
 
   module _ (tests : List Test) where
     pub filling-refused : T (ascending tests) → (r : Refusal) → (told (filling tests size new output .answer) ≡ Refused r) ↔ Lowest tests r
-    filling-refused up r =
-        let is : told (filling tests size new output .answer) ≡ first tests = told-outcome (first tests) in
-        (λ p. lowest-given tests up r .0 (sym is ∙ p), λ g. is ∙ lowest-given tests up r .1 g)
+    filling-refused up r = told-lowest _ tests (told-outcome (first tests)) up r
 
     pub filling-refused-keeps : (r : Refusal) → told (filling tests size new output .answer) ≡ Refused r → filling tests size new output .output ≡ output
     filling-refused-keeps r e = refused-outcome (first tests) r e

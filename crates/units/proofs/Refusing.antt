@@ -9,6 +9,7 @@ use native.Mathlib.Nat.{le-of-eq, le-of-lt}
 use native.Mathlib.Omega.{arith}
 use lib.Dec.{T, ltb, ltb→lt}
 use Rattle.units.specs.declared.Refusal.{Refusal}
+use Rattle.units.specs.declared.Verdict.{Verdict}
 use Rattle.units.specs.declared.Verdict.the-variants.{Allowed, Refused}
 use Rattle.units.specs.Refusals.{Test, first}
 
@@ -187,3 +188,7 @@ given-of (t ∷ ts) h r g = at (t .applies) refl (given-of ts (both .1) r)
 
 pub lowest-given : (ts : List Test) → T (ascending ts) → (r : Refusal) → (first ts ≡ Refused r) ↔ Lowest ts r
 lowest-given ts h r = (lowest-of ts h r, given-of ts h r)
+
+-- what the table says of an answer is what its tests say, so a number is given exactly when it is the lowest that applies
+pub told-lowest : (v : Verdict) (ts : List Test) → v ≡ first ts → T (ascending ts) → (r : Refusal) → (v ≡ Refused r) ↔ Lowest ts r
+told-lowest v ts is up r = (λ p. lowest-given ts up r .0 (sym is ∙ p), λ g. is ∙ lowest-given ts up r .1 g)

@@ -2,9 +2,6 @@
 -- Assumes nothing.
 use Rattle.signature.proofs.added_at.Statement.{statement}
 use Rattle.signature.proofs.added_at.Tie as tie
-use Rattle.signature.proofs.added_at.Reads as reads
-use Rattle.signature.proofs.added_at.Lts as lts
-use Rattle.signature.proofs.component_added.Reads as component-added-reads
 
 component-added-requires : tie.Need-component-added-requires
 component-added-requires c κs = tt
