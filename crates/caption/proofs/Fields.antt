@@ -75,20 +75,20 @@ module _ (e : ℕ) (caption : List ℕ) where
         row-symbol (plain GF16 e (symbol 2 caption)) (symbols 2 caption) i inside (plain-element GF16 e GF16-passes (symbol 2 caption) elements i)
 
     module _ (even : length caption % 2 ≡ 0) where
+      -- a row made from another field's symbols is the caption if it has as many, and each is the caption's
+      back : (f : (ℕ → ℕ) → ℕ → ℕ) (other : List ℕ) → symbols 2 other ≡ symbols 2 caption
+          → ((i : ℕ) → i < symbols 2 caption → f (symbol 2 other) i ≡ symbol 2 caption i) → bytes (symbols 2 other) (f (symbol 2 other)) ≡ caption
+      back f other same each =
+          ap (λ (k : ℕ). bytes k (f (symbol 2 other))) same ∙ row-same (f (symbol 2 other)) (symbol 2 caption) (symbols 2 caption) each ∙ row-own caption octets even
+
       pub decoded-encoded : decoded e (encoded e caption) ≡ caption
       unfolding decoded
       decoded-encoded =
-          let m : ℕ = symbols 2 caption in
-          ap (λ (k : ℕ). bytes k (plain GF16 e (symbol 2 (encoded e caption)))) encoded-symbols
-          ∙ row-same (plain GF16 e (symbol 2 (encoded e caption))) (symbol 2 caption) m
-          (λ i inside. plain-below e m _ _ encoded-symbol i inside ∙ plain-coded GF16 e GF16-passes (symbol 2 caption) elements i)
-          ∙ row-own caption octets even
+          back (plain GF16 e) (encoded e caption) encoded-symbols
+          (λ i inside. plain-below e (symbols 2 caption) _ _ encoded-symbol i inside ∙ plain-coded GF16 e GF16-passes (symbol 2 caption) elements i)
 
       pub encoded-decoded : encoded e (decoded e caption) ≡ caption
       unfolding encoded
       encoded-decoded =
-          let m : ℕ = symbols 2 caption in
-          ap (λ (k : ℕ). bytes k (coded GF16 e (symbol 2 (decoded e caption)))) decoded-symbols
-          ∙ row-same (coded GF16 e (symbol 2 (decoded e caption))) (symbol 2 caption) m
-          (λ i inside. coded-below e m _ _ decoded-symbol i inside ∙ coded-plain GF16 e GF16-passes (symbol 2 caption) elements i)
-          ∙ row-own caption octets even
+          back (coded GF16 e) (decoded e caption) decoded-symbols
+          (λ i inside. coded-below e (symbols 2 caption) _ _ decoded-symbol i inside ∙ coded-plain GF16 e GF16-passes (symbol 2 caption) elements i)

@@ -14,7 +14,7 @@ use Rattle.units.specs.declared.Verdict.the-variants.{Allowed, Refused}
 use Rattle.units.proofs.Refusing.{Quiet, allowed-not-refused, allowed-when, first-after, first-before}
 use Rattle.map.specs.Files.{pages, entryBytes}
 use Rattle.reader.specs.Fields.{fieldAt, isDue}
-use Rattle.map.specs.Reading.{headerOf, headerTests, entryTests, mapTests, told, reading, nKept, pageKept, bucketKept}
+use Rattle.map.specs.Reading.{headerOf, headerTests, entryTests, mapTests, told, reading, nKeepsRule, pageKeepsRule, bucketKeepsRule}
 use Rattle.map.specs.declared.Header.{Header}
 use Rattle.map.specs.declared.Reading.the-variants.{Holds, Breaks}
 use Rattle.map.proofs.Fields.{halves}
@@ -60,9 +60,9 @@ entries-map n bytes (suc m) at = (refl, entries-map n bytes m (at + entryBytes n
 module _ (bytes : List ℕ) where
   -- what an allowed header says
   pub record Kept : Type 0 where
-    pub n : nKept bytes ≡ true
-    pub page : pageKept bytes ≡ true
-    pub bucket : bucketKept bytes ≡ true
+    pub n : nKeepsRule bytes ≡ true
+    pub page : pageKeepsRule bytes ≡ true
+    pub bucket : bucketKeepsRule bytes ≡ true
 
   pub header-kept : first (headerTests bytes) ≡ Allowed → Kept
   header-kept e =

@@ -24,19 +24,19 @@ headerOf bytes =
 
 -- a rule of the map: if it is not kept, the map breaks at this place
 abbrev pub breaksAt : ℕ → Bool → Test
-breaksAt place kept = record { applies = not kept; refusal = record { number = MAP; value = place } }
+breaksAt place holds = record { applies = not holds; refusal = record { number = MAP; value = place } }
 
-abbrev pub nKept : List ℕ → Bool
-nKept bytes = isDue 1 (fieldAt 0 bytes 0) && nAllowed (headerOf bytes .n)
+abbrev pub nKeepsRule : List ℕ → Bool
+nKeepsRule bytes = isDue 1 (fieldAt 0 bytes 0) && nAllowed (headerOf bytes .n)
 
-abbrev pub pageKept : List ℕ → Bool
-pageKept bytes = isDue 2 (fieldAt 0 bytes 4) && pageAllowed (headerOf bytes .page .count)
+abbrev pub pageKeepsRule : List ℕ → Bool
+pageKeepsRule bytes = isDue 2 (fieldAt 0 bytes 4) && pageAllowed (headerOf bytes .page .count)
 
-abbrev pub bucketKept : List ℕ → Bool
-bucketKept bytes = isDue 3 (fieldAt 0 bytes 11) && bucketAllowed (headerOf bytes .bucket .count) (pages (headerOf bytes))
+abbrev pub bucketKeepsRule : List ℕ → Bool
+bucketKeepsRule bytes = isDue 3 (fieldAt 0 bytes 11) && bucketAllowed (headerOf bytes .bucket .count) (pages (headerOf bytes))
 
 abbrev pub headerTests : List ℕ → List Test
-headerTests bytes = breaksAt 0 (nKept bytes) ∷ breaksAt 4 (pageKept bytes) ∷ breaksAt 11 (bucketKept bytes) ∷ []
+headerTests bytes = breaksAt 0 (nKeepsRule bytes) ∷ breaksAt 4 (pageKeepsRule bytes) ∷ breaksAt 11 (bucketKeepsRule bytes) ∷ []
 
 -- one entry a page, m of them from a place on, and nothing follows
 unfoldable pub entryTests : ℕ → List ℕ → ℕ → ℕ → List Test

@@ -59,7 +59,7 @@ fn due(tag: u8, n: usize, map: &[u8], at: usize) -> bool
 }
 
 // Whether that is so, and the field's value is allowed.
-fn kept(tag: u8, map: &[u8], at: usize, allowed: bool) -> bool
+fn keeps_rule(tag: u8, map: &[u8], at: usize, allowed: bool) -> bool
     ensures { λ r. ⌜ r ≡ (isDue tag (fieldAt 0 (now (map .entry)) at) && allowed) ⌝ }
 {
     if !due(tag, 0, map, at) {
@@ -93,13 +93,13 @@ fn read_header(map: &[u8]) -> Reading
     ensures { λ r. ⌜ r ≡ told (first (headerTests (now (map .entry)))) (headerOf (now (map .entry))) ⌝ }
 {
     let h = header_of(map);
-    if !kept(1, map, 0, units::n_allowed(h.n)) {
+    if !keeps_rule(1, map, 0, units::n_allowed(h.n)) {
         return Reading::Breaks(0);
     }
-    if !kept(2, map, 4, units::page_allowed(h.page)) {
+    if !keeps_rule(2, map, 4, units::page_allowed(h.page)) {
         return Reading::Breaks(4);
     }
-    if !kept(3, map, 11, units::bucket_allowed(h.bucket, pages(h))) {
+    if !keeps_rule(3, map, 11, units::bucket_allowed(h.bucket, pages(h))) {
         return Reading::Breaks(11);
     }
     Reading::Holds(h)

@@ -26,7 +26,7 @@ pub fn text(t: &[u8])
     io::write_all(STDOUT_FILENO, t);
 }
 
-pub fn decimal(x: usize)
+fn decimal(x: usize)
     ensures { λ r. ⌜ r ≡ tt ⌝ }
 {
     io::print_decimal(STDOUT_FILENO, x as u64);

@@ -8,15 +8,7 @@ use Rattle.units.specs.Answers.{OneAnswer}
 use Rattle.reader.specs.Readers.{readerAt, Advanced, advancedOf, advancing}
 use Rattle.reader.specs.declared.Field.{Field}
 use Rattle.reader.specs.declared.Reader.{Reader}
-use Rattle.reader.proofs.field_at.Reads as field-at
-use Rattle.reader.proofs.taken_at.Reads as taken-at
 use Rattle.reader.proofs.read_field.Reads as read-field
-
-pub field-at-one-answer : OneAnswer field-at.Post
-field-at-one-answer κs a r s x y p q = p ∙ sym q
-
-pub taken-at-one-answer : OneAnswer taken-at.Post
-taken-at-one-answer κs a r s x y p q = p ∙ sym q
 
 pub read-field-one-answer : OneAnswer read-field.Post
 read-field-one-answer κs a r s x y p q = p ∙ sym q

@@ -19,13 +19,13 @@ pub enum Field {
 }
 
 // A field that was taken off, and the place that reading has come to.
-pub struct Taken {
-    pub field: Field,
-    pub place: usize,
+struct Taken {
+    field: Field,
+    place: usize,
 }
 
 // The field whose tag stands at a place, in a map of n components.
-pub fn field_at(n: usize, map: &[u8], at: usize) -> Field
+fn field_at(n: usize, map: &[u8], at: usize) -> Field
     ensures { λ r. ⌜ r ≡ fieldAt n (now (map .entry)) at ⌝ }
 {
     if map.len() < 3 {
@@ -64,7 +64,7 @@ fn under_rule(size: usize, map: &[u8], at: usize) -> Field
 }
 
 // The field at a place, and where reading goes on: behind it, or at the field that is broken.
-pub fn taken_at(n: usize, map: &[u8], at: usize) -> Taken
+fn taken_at(n: usize, map: &[u8], at: usize) -> Taken
     ensures { λ r. ⌜ r ≡ takenAt n (now (map .entry)) at ⌝ }
 {
     let field = field_at(n, map, at);

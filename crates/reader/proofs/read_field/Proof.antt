@@ -163,7 +163,8 @@ module _ {M : Type 1} (𝓤 : URA M) (H : Heap 𝓤) (A : Atoms 𝓤) (W : Given
 
     next-said : (f : Field) → ent 𝓤 (ensured 𝓤 H A next.ended (next.clauses 𝓤 H A at-mem run) (ν ∷ κ, (κ, tt)) x tt f) (fact 𝓤 (f ≡ fieldAt n (now (r .bytes)) (r .place)))
     next-said f =
-        exE 𝓤 _ (λ ws. via 𝓤 (fact 𝓤 (told f (ws .0))) (snd∗ 𝓤 (sem 𝓤 H A (lasts next.ended (ν ∷ κ, (κ, tt)) x ws)) (fact 𝓤 (told f (ws .0)))) (fact-mono 𝓤 (told f (ws .0)) _ (ap (λ (d : Advanced). d .field))))
+        exE 𝓤 _ (λ ws. via 𝓤 (fact 𝓤 (told f (ws .0))) (snd∗ 𝓤 (sem 𝓤 H A (lasts next.ended (ν ∷ κ, (κ, tt)) x ws)) (fact 𝓤 (told f (ws .0))))
+        (fact-mono 𝓤 (told f (ws .0)) _ (ap (λ (d : Advanced). d .field))))
 
   exits : (f : Field) (w : Val) → f ≡ found
       → ent 𝓤 (⋆ 𝓤 H A (‵ (flft κ (PosShare·right q)) ∷ (‵ (flft κ (PosShare·left q)) ⊛ ‵ ftrue) ∷ ‵ (F.the-row .own f (w ∷ [])) ∷ ‵ Own ∷ [])) (Post w)
