@@ -9,7 +9,7 @@ use native.Mathlib.Omega.{arith}
 use native.Mathlib.Numerals.{add-one}
 use lib.ListN.{length}
 use borrow.Author.Needs.{needs}
-use Rattle.units.specs.Writing.{written}
+use Rattle.units.specs.Writing.{written, partPut}
 use Rattle.units.proofs.Writing.{part-put}
 use Rattle.signature.specs.Kinds.{wide}
 use Rattle.signature.specs.Operations.{own}
@@ -107,9 +107,10 @@ returns-2 c =
     let starts : args .k * page < args .h .bucket .count = page-starts (args .h) (holds-sized _ (args .h) (pre .0)) (args .k) (pre .3) in
     let long : length (page-at .result .now) ≡ min page (length (args .table .now) - args .k * page) = ap length cut ∙ page-length page (args .table .now) (args .k) in
     let fits : args .k * page + length (page-at .result .now) ≤ length image = omega (arith, pre .1, pre .2) in
+    let put : put-part .last .1 .0 ≡ partPut (page-at .result .now) image (args .k * page) = put-part .ensures in
     ap {B = Stepped} (λ (p : ℕ). record { answer = Written (args .k); next = record { page = p }; image = put-part .last .1 .0; map = c .before .before .put-entry .last .1 .0 }) (add-one (args .k))
     ∙ ap₂ (passedOf (Written (args .k)) (args .k))
-    (put-part .ensures ∙ part-put _ image _ fits ∙ ap (written image (args .k * page)) cut)
+    (put ∙ part-put _ image _ fits ∙ ap (written image (args .k * page)) cut)
     (c .before .before .put-entry .ensures
     ∙ ap (λ (s : Signature). entryPut (record { tag = 4; signature = s }) (args .map .now) (args .k)) (signed .ensures ∙ ap (own wide (args .h .n)) cut))
     ∙ sym (written-passing (args .h) (args .table .now) image (args .map .now) (args .k) (λ i. slice-known2 .given i .fits) (pre .0) (λ i. shared-slice-known .given i .fits) (pre .3) agreed)
