@@ -46,7 +46,16 @@ returns c =
     let tag : byte .result ≡ getD bytes at 0 = byte .ensures ∙ ap (λ (i : ℕ). getD bytes i 0) is ∙ byte-within bytes at in
     let part : (j : ℕ) → upTo n j (lowFirst 2 bytes (place-within .result + 1 + 2 * j)) ≡ upTo n j (lowFirst 2 bytes (at + 1 + 2 * j)) =
     λ j. ap (λ (i : ℕ). upTo n j (lowFirst 2 bytes (i + 1 + 2 * j))) is ∙ ap (upTo n j) (two-bytes-within bytes at (2 * j)) in
-    cc (tag, component-at .ensures, part 1, component-at2 .ensures, part 2, c .before .component-at3 .ensures, part 3, c .component-at4 .ensures, part 4)
+    λ i. record {
+      tag = tag i;
+      signature = record {
+        n = n;
+        s1 = (component-at .ensures ∙ part 1) i;
+        s2 = (component-at2 .ensures ∙ part 2) i;
+        s3 = (c .before .component-at3 .ensures ∙ part 3) i;
+        s4 = (c .component-at4 .ensures ∙ part 4) i;
+      };
+    }
 
 pub entry-at-spec : {M : Type 1} → statement M
 entry-at-spec =
