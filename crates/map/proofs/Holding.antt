@@ -62,6 +62,9 @@ module _ (bytes : List ℕ) (h : Header) (holds : reading bytes ≡ Holds h) whe
   pub holds-header : headerOf bytes ≡ h
   holds-header = both .1
 
+  pub holds-kept : Kept bytes
+  holds-kept = quiet-kept bytes quiet
+
   pub holds-sized : Sized h
   holds-sized = subst Sized (both .1) (quiet-sized bytes quiet)
 

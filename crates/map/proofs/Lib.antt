@@ -11,3 +11,4 @@ pub mod Readback
 pub mod Octets
 pub mod Maps
 pub mod Holding
+pub mod Passing

@@ -1,4 +1,4 @@
--- One field: that it is due at a place says what stands there, and the other way round.
+-- One field: that it is due at a place says what stands there, and the other way round; and where a reader is when it has taken it off.
 -- Assumes nothing.
 use mathlib.Core.Path.{_≡_, refl, sym, ap, _∙_}
 use mathlib.Core.Bool.{Bool, true, false, false≢true}
@@ -9,7 +9,7 @@ use lib.Dec.{leb, eqb}
 use lib.ListN.{length, getD}
 use borrow.Author.Tests.{eqb-true, leb-true, eq-eqb, le-leb}
 use Rattle.signature.specs.Objects.{lowFirst}
-use Rattle.reader.specs.Fields.{Rule, long, none, rule, underRule, fieldAt, isDue}
+use Rattle.reader.specs.Fields.{Rule, long, none, rule, underRule, fieldAt, isDue, behind}
 
 -- tag and length are those due, and the value is all there
 pub record Due (tag size : ℕ) (bytes : List ℕ) (at : ℕ) : Type 0 where
@@ -55,3 +55,9 @@ module _ (n tag size : ℕ) (bytes : List ℕ) (at : ℕ) (r : rule n tag ≡ lo
       let there : at + 3 ≤ length bytes = omega arith in
       simp (le-leb (at + 3) (length bytes) there, d .is, r, eq-eqb (lowFirst 2 bytes (at + 1)) size (d .due), le-leb (at + 3 + size) (length bytes) (d .inside))
       (eq-eqb tag tag refl)
+
+  pub behind-due : Due tag size bytes at → behind at (fieldAt n bytes at) ≡ at + 3 + size
+  unfolding fieldAt
+  behind-due d =
+      let there : at + 3 ≤ length bytes = omega arith in
+      simp (le-leb (at + 3) (length bytes) there, d .is, r, eq-eqb (lowFirst 2 bytes (at + 1)) size (d .due), le-leb (at + 3 + size) (length bytes) (d .inside))

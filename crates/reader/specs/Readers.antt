@@ -1,6 +1,6 @@
 -- A reader holds the bytes of a map and its place, and a call takes off one field.
 use mathlib.Core.List.{List}
-use Prim.Native.Nat.{ℕ}
+use Prim.Native.Nat.{ℕ, zero, suc}
 use denote.Ref.{RefT, now}
 use Rattle.reader.specs.Fields.{fieldAt, behind}
 use Rattle.reader.specs.declared.Field.{Field}
@@ -23,3 +23,8 @@ abbrev pub advancing : ℕ → Reader → Advanced
 advancing n r =
     let field : Field = fieldAt n (now (r .bytes)) (r .place) in
     advancedOf field (readerAt (r .bytes) (behind (r .place) field))
+
+-- the place that a reader comes to when it has taken off m fields
+unfoldable pub comesTo : ℕ → List ℕ → ℕ → ℕ → ℕ
+comesTo n bytes zero at = at
+comesTo n bytes (suc m) at = comesTo n bytes m (behind at (fieldAt n bytes at))
