@@ -73,7 +73,7 @@ pub fn numbers(l: &[usize])
 }
 
 pub fn refused(r: Refusal)
-    ensures { λ r. ⌜ r ≡ tt ⌝ }
+    ensures { λ answer. ⌜ answer ≡ tt ⌝ }
 {
     text(b"refused ");
     decimal(r.number as usize);
