@@ -9,6 +9,7 @@ use lib.Dec.{leb, eqb}
 use lib.ListN.{length, getD}
 use borrow.Author.Tests.{eqb-true, leb-true, eq-eqb, le-leb}
 use Rattle.signature.specs.Objects.{lowFirst}
+use Rattle.reader.specs.declared.Field.the-variants.{Formed}
 use Rattle.reader.specs.Fields.{Rule, long, none, rule, underRule, fieldAt, isDue, behind}
 
 -- tag and length are those due, and the value is all there
@@ -49,15 +50,14 @@ module _ (n tag size : ℕ) (bytes : List ℕ) (at : ℕ) (r : rule n tag ≡ lo
       three true l = ruled (rule n (getD bytes at 0)) refl (simp l at e)
       three false l = absurd (false≢true (simp l at e))
 
-  pub due-is : Due tag size bytes at → isDue tag (fieldAt n bytes at) ≡ true
+  due-formed : Due tag size bytes at → fieldAt n bytes at ≡ Formed (record { tag = tag; value = at + 3; next = at + 3 + size })
   unfolding fieldAt
-  due-is d =
+  due-formed d =
       let there : at + 3 ≤ length bytes = omega arith in
       simp (le-leb (at + 3) (length bytes) there, d .is, r, eq-eqb (lowFirst 2 bytes (at + 1)) size (d .due), le-leb (at + 3 + size) (length bytes) (d .inside))
-      (eq-eqb tag tag refl)
+
+  pub due-is : Due tag size bytes at → isDue tag (fieldAt n bytes at) ≡ true
+  due-is d = ap (isDue tag) (due-formed d) ∙ eq-eqb tag tag refl
 
   pub behind-due : Due tag size bytes at → behind at (fieldAt n bytes at) ≡ at + 3 + size
-  unfolding fieldAt
-  behind-due d =
-      let there : at + 3 ≤ length bytes = omega arith in
-      simp (le-leb (at + 3) (length bytes) there, d .is, r, eq-eqb (lowFirst 2 bytes (at + 1)) size (d .due), le-leb (at + 3 + size) (length bytes) (d .inside))
+  behind-due d = ap (behind at) (due-formed d)

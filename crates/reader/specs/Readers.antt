@@ -2,9 +2,10 @@
 use mathlib.Core.List.{List}
 use Prim.Native.Nat.{ℕ, zero, suc}
 use denote.Ref.{RefT, now}
-use Rattle.reader.specs.Fields.{fieldAt, behind}
+use Rattle.reader.specs.Fields.{fieldAt, behind, takenAt}
 use Rattle.reader.specs.declared.Field.{Field}
 use Rattle.reader.specs.declared.Reader.{Reader}
+use Rattle.reader.specs.declared.Taken.{Taken}
 
 -- a reader of these bytes, at a place
 abbrev pub readerAt : RefT (List ℕ) → ℕ → Reader
@@ -18,11 +19,11 @@ pub record Advanced : Type 0 where
 abbrev pub advancedOf : Field → Reader → Advanced
 advancedOf field reader = record { field = field; reader = reader }
 
--- the field at its place, and the same bytes at the place behind it
+-- the field at its place is taken off, and the reader of the same bytes is behind it
 abbrev pub advancing : ℕ → Reader → Advanced
 advancing n r =
-    let field : Field = fieldAt n (now (r .bytes)) (r .place) in
-    advancedOf field (readerAt (r .bytes) (behind (r .place) field))
+    let taken : Taken = takenAt n (now (r .bytes)) (r .place) in
+    advancedOf (taken .field) (readerAt (r .bytes) (taken .place))
 
 -- the place that a reader comes to when it has taken off m fields
 unfoldable pub comesTo : ℕ → List ℕ → ℕ → ℕ → ℕ
