@@ -34,11 +34,15 @@ use Rattle.load.specs.Loads.{pageTests, loadTests, asking, partUnless, l
 use Rattle.load.proofs.ask_page.Reads as ask-page
 use Rattle.load.proofs.load_bucket.Reads as load-bucket
 use Rattle.load.proofs.load_page.Reads as load-page
+use Rattle.load.proofs.open_page.Reads as open-page
 
 -- ---- no second answer; of an empty part the contract says that it is empty, and not where it stands
 
 pub load-page-one-answer : (κs : _) (a : _) (r s : _) (x y : _) → load-page.Post κs a r x → load-page.Post κs a s y → now r ≡ now s
 load-page-one-answer κs a r s x y p q = p ∙ sym q
+
+pub open-page-one-answer : OneAnswer open-page.Post
+open-page-one-answer κs a r s x y p q = p ∙ sym q
 
 pub ask-page-one-answer : OneAnswer ask-page.Post
 ask-page-one-answer κs a r s x y p q = p ∙ sym q
@@ -63,19 +67,28 @@ module _ (image map : List ℕ) (k : ℕ) where
   unfolding loadedPage
   load-refused r e = ap (λ (v : Verdict). partUnless v (pageAt (headerOf map .page .count) image k)) e
 
-  -- a page has bytes: an empty part is always a refusal
-  pub load-some : asking image map k ≡ Allowed → 0 < length (loadedPage image map k)
+  -- a page has a first byte, and the image has it
+  first-byte : asking image map k ≡ Allowed → (0 < headerOf map .page .count) × (k * headerOf map .page .count < length image)
   unfolding asking
-  load-some e =
+  first-byte e =
       let q : Quiet (loadTests image map k) = allowed-when (loadTests image map k) .0 e in
       let h : Header = headerOf map in
       let u : Usable (length image) (length image) map h = quiet-usable (length image) (length image) map (λ g. pageTests g image map k) e in
       let inside : k < pages h = leb-false _ _ (q .1 .1 .0) in
       let sized : Sized h = holds-sized map h (u .holds) in
-      let some : 0 < h .page .count = some-page h sized in
       let starts : k * h .page .count < h .bucket .count = page-starts h sized k inside in
-      let long : length (pageAt (h .page .count) image k) ≡ min (h .page .count) (length image - k * h .page .count) = page-length (h .page .count) image k in
-      omega (arith, ap length (load-gives e), u .one-fits)
+      (some-page h sized, omega (arith, u .one-fits))
+
+  pub load-starts : asking image map k ≡ Allowed → k * headerOf map .page .count < length image
+  load-starts e = first-byte e .1
+
+  -- an empty part is always a refusal
+  pub load-some : asking image map k ≡ Allowed → 0 < length (loadedPage image map k)
+  load-some e =
+      let page : ℕ = headerOf map .page .count in
+      let long : length (pageAt page image k) ≡ min page (length image - k * page) = page-length page image k in
+      let (some, starts) = first-byte e in
+      omega (arith, ap length (load-gives e))
 
 -- ---- the bucket
 

@@ -35,7 +35,8 @@ pub fn ask_page(image: &[u8], map: &[u8], k: usize) -> Verdict
     }
 }
 
-fn open_page(image: &[u8], map: &[u8], k: usize) -> Opening
+// That page k may be loaded, with the header of its map; or why not.
+pub fn open_page(image: &[u8], map: &[u8], k: usize) -> Opening
     ensures { λ r. ⌜ r ≡ opened (asking (now (image .entry)) (now (map .entry)) k) (headerOf (now (map .entry))) ⌝ }
 {
     let length = Bytes { count: image.len() };

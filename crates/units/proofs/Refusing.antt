@@ -122,6 +122,10 @@ above-each n (t ∷ ts) h u m =
     (λ (k : List·Memᴰ u ts). above-each n ts (both .1) u k)
     (List·Memᴰ·cases-cons m)
 
+-- a refusal of tests whose numbers are all above n has a number above n
+pub lowest-above : (n : ℕ) (ts : List Test) → T (above n ts) → (r : Refusal) → Lowest ts r → n < r .number
+lowest-above n ts h r g = subst (λ (x : Refusal). n < x .number) (g .gives) (above-each n ts h (g .here) (g .listed))
+
 pub not-both : (b : Bool) → b ≡ true → b ≡ false → ⊥
 not-both b p q = let z : _≡_ {A = ℕ} 0 1 = cc in omega arith
 

@@ -1,0 +1,4 @@
+-- What is proved of the C interface beside its functions.
+pub mod Parts
+pub mod Answers
+pub mod Statuses

@@ -1,0 +1,2 @@
+-- What the contracts of the C interface cite.
+pub mod Replies
