@@ -1,5 +1,6 @@
-# make demo: the library at work.   make test: everything that is promised, proved and run from nothing.
-.PHONY: demo test kit
+# make demo: the library at work.   make test: everything that is promised, proved and run from nothing.   make fuzz: the library against the second
+# program, until they differ.
+.PHONY: demo test fuzz kit archive
 
 demo: kit
 	@mkdir -p target
@@ -16,7 +17,21 @@ demo: kit
 
 test: kit
 	rt fmt --check
+	host/tools gcc g++ valgrind cargo
+	$(MAKE) --no-print-directory archive
+	host/check
 	runs/gate
+
+# Endless, from a seed that it prints; SEED=N takes another.
+fuzz: kit archive
+	host/tools cargo
+	cd host && cargo run --release --offline --quiet --bin fuzz -- $(SEED)
+
+# The static library that C and Rust link, with the proofs that it needs.
+archive: kit
+	@mkdir -p target
+	@echo "Proving and building target/staticlib/libcotelark.a (two minutes from nothing) .."
+	@rt staticlib cotelark > target/archive.log 2>&1 || { cat target/archive.log; exit 1; }
 
 # The kit that the proofs were last seen to pass with is named in kit.txt; another one may do as well.
 kit:

@@ -6,7 +6,7 @@
  *
  * - Bytes, symbols, pages and numbers of a list are counted in size_t, and any number may be handed in: one that is out of bounds is refused, never
  *   wrapped. A symbol is two bytes, low byte first. Pages, places and positions start at 0.
- * - A buffer is a pointer and a length. A length may be 0. A buffer that is written must not overlap another one of the same call.
+ * - A buffer is a pointer and a length. Where the length is 0 the pointer may be NULL. A buffer that is written must not overlap another one of the call.
  * - A pointer to a single number (value, start, answer, ..) is where a part of the answer goes: it must point to one, and each call writes it, refused or
  *   not. `value` is the success value that the function names, or the value beside the refusal: 0 unless the function says otherwise.
  * - A refused call changes no byte of the buffers lent to it, nor the place of a step. After success, an output past the part written is as it was.
