@@ -1,0 +1,88 @@
+//! The second program, put behind the same calls as the library.
+
+use crate::call::{Call, Outcome, Program};
+use crate::library::{FINISHED, KEPT, REFUSED, WRITTEN};
+use second::{Refusal, Signature, Step};
+
+/// The second program.
+pub struct Second;
+
+impl Program for Second {
+    fn name(&self) -> String {
+        "second".to_string()
+    }
+
+    fn run(&self, call: &Call) -> Outcome {
+        let mut after = call.clone();
+        let status = carry_out(&mut after);
+        Outcome { status, after, guards_kept: true }
+    }
+}
+
+fn carry_out(call: &mut Call) -> u32 {
+    match call {
+        Call::Sign { n, object, signature } => put(signature, second::sign(*n, object)),
+        Call::Join { first_n, first, first_symbols, second_n, second, second_symbols, joined } => {
+            let first = Signature { n: *first_n, components: *first };
+            let second = Signature { n: *second_n, components: *second };
+            put(joined, second::join(&first, *first_symbols, &second, *second_symbols))
+        }
+        Call::Edit { n, signature, at_symbol, old_piece, new_piece, edited } => {
+            let signature = Signature { n: *n, components: *signature };
+            put(edited, second::edit(&signature, *at_symbol, old_piece, new_piece))
+        }
+        Call::MakeMap { n, page_bytes, bucket, output, value } => {
+            tell([value], second::make_map(*n, *page_bytes, bucket, output).map(|bytes| [bytes]))
+        }
+        Call::ReadMap { map, n, page_bytes, bucket_bytes, pages, value } => {
+            let header = second::read_map(map).map(|header| [0, header.n, header.page_bytes, header.bucket_bytes, header.pages]);
+            tell([value, n, page_bytes, bucket_bytes, pages], header)
+        }
+        Call::ListMap { map, output, value } => tell([value], second::list_map(map, output).map(|bytes| [bytes])),
+        Call::Store { table, image, map, list, value } => tell([value], second::store(table, image, map, list).map(|written| [written])),
+        Call::Step { place, table, image, map, answer, value } => tell_step(answer, value, second::step(place, table, image, map)),
+        Call::LoadPage { image, map, page, start, bytes, value } => {
+            let part = second::load_page(image, map, *page);
+            tell([value, start, bytes], part.map(|part| [0, part.start as u64, part.len() as u64]))
+        }
+        Call::AskPage { image, map, page, value } => tell([value], second::ask_page(image, map, *page).map_or(Ok([0]), Err)),
+        Call::LoadBucket { image, map, table, value } => tell([value], second::load_bucket(image, map, table).map(|bytes| [bytes])),
+        Call::Encode { plain, output, value } => tell([value], second::encode(plain, output).map(|bytes| [bytes])),
+        Call::Decode { code, output, value } => tell([value], second::decode(code, output).map(|bytes| [bytes])),
+        Call::Search { code, pattern, list, value } => tell([value], second::search(code, pattern, list).map(|found| [found])),
+    }
+}
+
+/// Puts a signature where it goes; a refused call leaves that as it was.
+fn put(signature: &mut [u16; 4], answer: Result<Signature, Refusal>) -> u32 {
+    match answer {
+        Ok(answer) => {
+            *signature = answer.components;
+            0
+        }
+        Err(refusal) => refusal.number,
+    }
+}
+
+/// Writes the numbers told, `value` first; of a refusal its value, and zeros.
+fn tell<const COUNT: usize>(told: [&mut u64; COUNT], answer: Result<[u64; COUNT], Refusal>) -> u32 {
+    let (status, numbers) = match answer {
+        Ok(numbers) => (0, numbers),
+        Err(refusal) => (refusal.number, std::array::from_fn(|index| if index == 0 { refusal.value } else { 0 })),
+    };
+    for (place, number) in told.into_iter().zip(numbers) {
+        *place = number;
+    }
+    status
+}
+
+fn tell_step(answer: &mut u32, value: &mut u64, step: Result<Step, Refusal>) -> u32 {
+    let (status, told, page) = match step {
+        Ok(Step::Kept(page)) => (0, KEPT, page),
+        Ok(Step::Written(page)) => (0, WRITTEN, page),
+        Ok(Step::Finished) => (0, FINISHED, 0),
+        Err(refusal) => (refusal.number, REFUSED, refusal.value),
+    };
+    (*answer, *value) = (told, page);
+    status
+}
