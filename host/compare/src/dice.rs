@@ -34,11 +34,12 @@ impl Dice {
         (0..length).map(|_| self.number() as u8).collect()
     }
 
-    /// Bytes of one of three sorts: any, nearly all zero, or of two values only.
+    /// Bytes of one of four sorts: any, nearly all zero, all zero, or of two values only.
     pub fn bytes(&mut self, length: usize) -> Vec<u8> {
-        match self.below(3) {
+        match self.below(4) {
             0 => self.any_bytes(length),
             1 => (0..length).map(|_| if self.once_in(8) { self.number() as u8 } else { 0 }).collect(),
+            2 => vec![0; length],
             _ => (0..length).map(|_| self.below(2) as u8).collect(),
         }
     }

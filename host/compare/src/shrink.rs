@@ -119,22 +119,26 @@ fn smallest<I: Input>(input: &I, differs: &dyn Fn(&I) -> bool) -> I {
     }
 }
 
-/// Every input that is one change smaller, the larger changes first.
+/// Every input that is one change smaller, the larger changes first: at a long input only those end in time.
 fn candidates<I: Input>(input: &I) -> impl Iterator<Item = I> + '_ {
-    ranges(input.pieces()).filter_map(|pieces| input.without(pieces)).chain(cuts(input)).chain(lowerings(input))
+    let pieces = [false, true].into_iter().flat_map(|fine| ranges(input.pieces(), fine));
+    let changes = [false, true].into_iter().flat_map(|fine| cuts(input, fine).chain(lowerings(input, fine)));
+    pieces.filter_map(|pieces| input.without(pieces)).chain(changes)
 }
 
-/// Ranges that cover so many values: the whole, then halves, quarters and so on down to single values.
-fn ranges(count: usize) -> impl Iterator<Item = Range<usize>> {
+/// Ranges that cover so many values: the whole, then halves, quarters and so on to a 64th; or from there to single ones.
+fn ranges(count: usize, fine: bool) -> impl Iterator<Item = Range<usize>> {
     let sizes = successors(Some(count), |size| (*size > 1).then(|| size.div_ceil(2))).filter(|size| *size > 0);
-    sizes.flat_map(move |size| (0..count).step_by(size).map(move |start| start..count.min(start + size)))
+    sizes
+        .filter(move |size| (size * 64 < count) == fine)
+        .flat_map(move |size| (0..count).step_by(size).map(move |start| start..count.min(start + size)))
 }
 
 /// Each range cut out of all parts of one length, since some must be equally long, and out of one part alone.
-fn cuts<I: Input>(input: &I) -> impl Iterator<Item = I> + '_ {
+fn cuts<I: Input>(input: &I, fine: bool) -> impl Iterator<Item = I> + '_ {
     let counts = shapes(input, |part| part.elastic().then(|| part.count()));
     let whole = counts.clone().into_iter().enumerate();
-    let each = whole.flat_map(|(index, count)| ranges(count.unwrap_or(0)).map(move |range| (index, range)));
+    let each = whole.flat_map(move |(index, count)| ranges(count.unwrap_or(0), fine).map(move |range| (index, range)));
     each.flat_map(|(index, range)| [(index, range.clone(), false), (index, range, true)]).map(move |(index, range, alone)| {
         let mut smaller = input.clone();
         for (twin, part) in smaller.parts_mut().into_iter().enumerate() {
@@ -147,11 +151,11 @@ fn cuts<I: Input>(input: &I) -> impl Iterator<Item = I> + '_ {
 }
 
 /// Each range of a part's values set to 0, halved, lessened by an eighth, by 1, or by 2, which keeps an even one even.
-fn lowerings<I: Input>(input: &I) -> impl Iterator<Item = I> + '_ {
+fn lowerings<I: Input>(input: &I, fine: bool) -> impl Iterator<Item = I> + '_ {
     let ways: [fn(u64) -> u64; 5] =
         [|_| 0, |value| value / 2, |value| value - value / 8, |value| value.saturating_sub(1), |value| value.saturating_sub(2)];
     let counts = shapes(input, |part| part.count()).into_iter().enumerate();
-    let each = counts.flat_map(|(index, count)| ranges(count).map(move |range| (index, range)));
+    let each = counts.flat_map(move |(index, count)| ranges(count, fine).map(move |range| (index, range)));
     each.flat_map(move |(index, range)| ways.map(|way| (index, range.clone(), way))).filter_map(|(index, range, way)| {
         let mut smaller = input.clone();
         let lowered = smaller.parts_mut()[index].lower(range, way);

@@ -193,6 +193,20 @@ fn patterns() {
 }
 
 #[test]
+fn patterns_that_hit_everywhere() {
+    // Zeros are at each place of a field of zeros, and ones at each place of a field of ones.
+    let Call::Encode { output: code, .. } = done(&encode(&[1, 0].repeat(32_768), 65_536)) else { panic!() };
+    for (code, pattern) in [(&vec![0; 65_536], [0, 0]), (&code, [1, 0])] {
+        for l in [1, 2, 1_000, 32_767, 32_768] {
+            let places = 32_768 - l + 1;
+            let Call::Search { list, value, .. } = done(&search(code, &pattern.repeat(l), places)) else { panic!() };
+            assert_eq!(value, places as u64);
+            assert!(list.into_iter().eq(0..places as u64));
+        }
+    }
+}
+
+#[test]
 fn the_largest_map() {
     let bucket = any_bytes(8_192);
     let mut map = true_map(4, 2, &bucket);
