@@ -6,9 +6,10 @@
  *
  * - Bytes, symbols, pages and numbers of a list are counted in size_t, and any number may be handed in: one that is out of bounds is refused, never
  *   wrapped. A symbol is two bytes, low byte first. Pages, places and positions start at 0.
- * - A buffer is a pointer and a length. Where the length is 0 the pointer may be NULL. A buffer that is written must not overlap another one of the call.
- * - A pointer to a single number (value, start, answer, ..) is where a part of the answer goes: it must point to one, and each call writes it, refused or
- *   not. `value` is the success value that the function names, or the value beside the refusal: 0 unless the function says otherwise.
+ * - A buffer is a pointer and a length, and where the length is 0 the pointer may be NULL; or it is an array of four symbols. One that is written must
+ *   not overlap another one of the same call.
+ * - A pointer to a single number other than the place of a step is where a part of the answer goes: it must point to one, and each call writes it,
+ *   refused or not. `value` is the success value that the function names, or the value beside the refusal: 0 where nothing else is said.
  * - A refused call changes no byte of the buffers lent to it, nor the place of a step. After success, an output past the part written is as it was.
  * - Nothing is kept between calls, allocated or freed. Calls on separate buffers may run at the same time.
  */
@@ -75,6 +76,7 @@ uint32_t cotelark_make_map(size_t n, size_t page_bytes, const uint8_t *bucket, s
 /*
  * What a map's first fields say, once the whole map is found to keep its rules. Its buffer must end with the map.
  * Writes n, the bytes of a page and of the bucket, and the page count; zeros when refused.
+ * value: 0.
  * Refused: MAP.
  */
 uint32_t cotelark_read_map(const uint8_t *map, size_t map_bytes, size_t *n, size_t *page_bytes, size_t *bucket_bytes, size_t *pages, size_t *value);
@@ -109,6 +111,7 @@ uint32_t cotelark_step(size_t *place, const uint8_t *table, size_t table_bytes, 
 /*
  * Where one page stands in the image: `bytes` bytes from image + start on, if they have their entry's signature. Nothing is copied.
  * Writes start and bytes; zeros when refused, and no page has 0 bytes.
+ * value: 0.
  * Refused: MAP, MATCH (the image and the map's bucket differ in length), PAGENO (at or above the page count), DAMAGED.
  */
 uint32_t cotelark_load_page(const uint8_t *image, size_t image_bytes, const uint8_t *map, size_t map_bytes, size_t page, size_t *start, size_t *bytes,
@@ -116,6 +119,7 @@ uint32_t cotelark_load_page(const uint8_t *image, size_t image_bytes, const uint
 
 /*
  * The same inputs put as a question: whether that page would be loaded.
+ * value: 0.
  * Refused: as cotelark_load_page.
  */
 uint32_t cotelark_ask_page(const uint8_t *image, size_t image_bytes, const uint8_t *map, size_t map_bytes, size_t page, size_t *value);

@@ -7,8 +7,8 @@ use native.Mathlib.Omega.{arith}
 use lib.ListN.{length, take, drop, length-take}
 use lib.Seq.{take-take, take-length}
 use Rattle.units.specs.declared.Refusal.{Refusal}
-use Rattle.units.specs.declared.Verdict.the-variants.{Allowed, Refused}
 use Rattle.units.specs.declared.Verdict.{Verdict}
+use Rattle.units.specs.declared.Verdict.the-variants.{Allowed, Refused}
 use Rattle.map.specs.Buckets.{pageAt}
 use Rattle.map.specs.Reading.{headerOf}
 use Rattle.map.specs.declared.Header.{Header}

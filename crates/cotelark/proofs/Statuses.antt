@@ -10,31 +10,31 @@ use lib.ListN.{length}
 use Rattle.units.specs.Filling.{room, told as Filled·told}
 use Rattle.units.specs.Naming.{told as Listed·told}
 use Rattle.units.specs.Refusals.{Test}
-use Rattle.units.specs.declared.Filled.the-variants as Filled
 use Rattle.units.specs.declared.Filled.{Filled}
-use Rattle.units.specs.declared.Listed.the-variants as Listed
+use Rattle.units.specs.declared.Filled.the-variants as Filled
 use Rattle.units.specs.declared.Listed.{Listed}
+use Rattle.units.specs.declared.Listed.the-variants as Listed
 use Rattle.units.specs.declared.Refusal.{Refusal}
-use Rattle.units.specs.declared.Verdict.the-variants.{Allowed, Refused}
 use Rattle.units.specs.declared.Verdict.{Verdict}
+use Rattle.units.specs.declared.Verdict.the-variants.{Allowed, Refused}
 use Rattle.units.proofs.Refusing.{Lowest, above, lowest-above}
 use Rattle.signature.specs.Kinds.{wide}
 use Rattle.signature.specs.Operations.{told as Signed·told, signing, signTests, joining, joinTests, editing, editTests}
-use Rattle.signature.specs.declared.Answer.the-variants as Answer
 use Rattle.signature.specs.declared.Answer.{Answer}
+use Rattle.signature.specs.declared.Answer.the-variants as Answer
 use Rattle.signature.specs.declared.Signature.{Signature}
 use Rattle.signature.proofs.EveryKind.{sign-refused, join-refused, edit-refused}
 use Rattle.map.specs.Making.{making, makeTests}
 use Rattle.map.specs.declared.Header.{Header}
-use Rattle.map.specs.declared.Reading.the-variants.{Holds, Breaks}
 use Rattle.map.specs.declared.Reading.{Reading}
+use Rattle.map.specs.declared.Reading.the-variants.{Holds, Breaks}
 use Rattle.map.proofs.Maps.{make-refused}
 use Rattle.listing.specs.Lines.{listing, textOut}
 use Rattle.listing.proofs.Listings.{list-refused}
 use Rattle.store.specs.Steps.{told as Step·told, stepping, stepTests}
 use Rattle.store.specs.Stores.{storing, storeTests}
-use Rattle.store.specs.declared.Answer.the-variants as StepAnswer
 use Rattle.store.specs.declared.Answer.{Answer as StepAnswer}
+use Rattle.store.specs.declared.Answer.the-variants as StepAnswer
 use Rattle.store.specs.declared.Place.{Place}
 use Rattle.store.proofs.Answers.{step-refused, store-refused}
 use Rattle.load.specs.Loads.{asking, loadTests, loading, loadBucketTests}

@@ -4,24 +4,24 @@ use Prim.Native.Nat.{ℕ, _*_}
 use lib.ListN.{length, getD}
 use Rattle.units.specs.Filling.{Outcome}
 use Rattle.units.specs.Refusals.{MAP}
-use Rattle.units.specs.declared.Filled.the-variants as Filled
 use Rattle.units.specs.declared.Filled.{Filled}
-use Rattle.units.specs.declared.Listed.the-variants as Listed
+use Rattle.units.specs.declared.Filled.the-variants as Filled
 use Rattle.units.specs.declared.Listed.{Listed}
+use Rattle.units.specs.declared.Listed.the-variants as Listed
 use Rattle.units.specs.declared.Refusal.{Refusal}
-use Rattle.units.specs.declared.Verdict.the-variants as Verdict
 use Rattle.units.specs.declared.Verdict.{Verdict}
-use Rattle.signature.specs.declared.Answer.the-variants as Answer
+use Rattle.units.specs.declared.Verdict.the-variants as Verdict
 use Rattle.signature.specs.declared.Answer.{Answer}
+use Rattle.signature.specs.declared.Answer.the-variants as Answer
 use Rattle.signature.specs.declared.Signature.{Signature}
 use Rattle.map.specs.Files.{pages}
 use Rattle.map.specs.Reading.{headerOf}
-use Rattle.map.specs.declared.Reading.the-variants as Reading
 use Rattle.map.specs.declared.Reading.{Reading}
+use Rattle.map.specs.declared.Reading.the-variants as Reading
 use Rattle.store.specs.Steps.{Stepped}
 use Rattle.store.specs.Stores.{Stored}
-use Rattle.store.specs.declared.Answer.the-variants as StepAnswer
 use Rattle.store.specs.declared.Answer.{Answer as StepAnswer}
+use Rattle.store.specs.declared.Answer.the-variants as StepAnswer
 use Rattle.store.specs.declared.Place.{Place}
 use Rattle.load.specs.Loads.{asking, loadedPage}
 use Rattle.caption.specs.Searches.{Searched}

@@ -8,6 +8,7 @@ use units::Listed;
 use units::Refusal;
 use units::Verdict;
 
+// What a step did, by number.
 pub const STEP_REFUSED: u32 = 0;
 
 pub const STEP_KEPT: u32 = 1;

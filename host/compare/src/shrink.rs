@@ -150,10 +150,17 @@ fn cuts<I: Input>(input: &I, fine: bool) -> impl Iterator<Item = I> + '_ {
     })
 }
 
-/// Each range of a part's values set to 0, halved, lessened by an eighth, by 1, or by 2, which keeps an even one even.
+/// Each range of a part's values set to 0; to the rest by 27,720, which keeps the rest by every length up to 12; halved; lessened by an eighth, by 1,
+/// or by 2, which keeps an even one even.
 fn lowerings<I: Input>(input: &I, fine: bool) -> impl Iterator<Item = I> + '_ {
-    let ways: [fn(u64) -> u64; 5] =
-        [|_| 0, |value| value / 2, |value| value - value / 8, |value| value.saturating_sub(1), |value| value.saturating_sub(2)];
+    let ways: [fn(u64) -> u64; 6] = [
+        |_| 0,
+        |value| value % 27_720,
+        |value| value / 2,
+        |value| value - value / 8,
+        |value| value.saturating_sub(1),
+        |value| value.saturating_sub(2),
+    ];
     let counts = shapes(input, |part| part.count()).into_iter().enumerate();
     let each = counts.flat_map(move |(index, count)| ranges(count, fine).map(move |range| (index, range)));
     each.flat_map(move |(index, range)| ways.map(|way| (index, range.clone(), way))).filter_map(|(index, range, way)| {
