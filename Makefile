@@ -2,6 +2,9 @@
 # program, until they differ.
 .PHONY: demo test fuzz kit archive
 
+# A cargo that rustup put there may not be on the PATH.
+export PATH := $(PATH):$(HOME)/.cargo/bin
+
 demo: kit
 	@mkdir -p target
 	@echo "Proving and building the programs cases, maplist, stores and captions (three minutes from nothing) .."
