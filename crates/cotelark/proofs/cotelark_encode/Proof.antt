@@ -1,8 +1,7 @@
 -- `cotelark::cotelark_encode` meets its contract: the code is put in the output, and its answer crosses.
 -- Assumes nothing.
-use mathlib.Core.Path.{ap, ap₂, _∙_}
 use borrow.Author.Needs.{needs}
-use Rattle.cotelark.specs.Replies.{filled, wroteOf}
+use Rattle.cotelark.proofs.Crossing.{wrote-crosses}
 use Rattle.cotelark.proofs.cotelark_encode.Statement.{statement}
 use Rattle.cotelark.proofs.cotelark_encode.Tie as tie
 
@@ -16,9 +15,7 @@ same-length : tie.Need-same-length
 same-length c = search needs
 
 returns : tie.Need-returns
-returns c =
-    let given : _ = c .before .before .before .before .encode .ensures in
-    ap₂ wroteOf (c .filled .ensures ∙ ap (λ o. filled (o .answer)) given) (ap (λ o. o .output) given)
+returns c = wrote-crosses (c .filled .ensures) (c .before .before .before .before .encode .ensures)
 
 pub cotelark-encode-spec : {M : Type 1} → statement M
 cotelark-encode-spec = tie.close (tie.spec encode-requires filled-requires same-length returns)

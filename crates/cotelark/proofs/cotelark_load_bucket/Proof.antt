@@ -1,8 +1,7 @@
 -- `cotelark::cotelark_load_bucket` meets its contract: the load fills the table, and its answer crosses.
 -- Assumes nothing.
-use mathlib.Core.Path.{ap, ap₂, _∙_}
 use borrow.Author.Needs.{needs}
-use Rattle.cotelark.specs.Replies.{filled, wroteOf}
+use Rattle.cotelark.proofs.Crossing.{wrote-crosses}
 use Rattle.cotelark.proofs.cotelark_load_bucket.Statement.{statement}
 use Rattle.cotelark.proofs.cotelark_load_bucket.Tie as tie
 
@@ -16,9 +15,7 @@ same-length : tie.Need-same-length
 same-length c = search needs
 
 returns : tie.Need-returns
-returns c =
-    let given : _ = c .before .before .before .before .load-bucket .ensures in
-    ap₂ wroteOf (c .filled .ensures ∙ ap (λ o. filled (o .answer)) given) (ap (λ o. o .output) given)
+returns c = wrote-crosses (c .filled .ensures) (c .before .before .before .before .load-bucket .ensures)
 
 pub cotelark-load-bucket-spec : {M : Type 1} → statement M
 cotelark-load-bucket-spec =
