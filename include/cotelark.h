@@ -1,5 +1,5 @@
 /*
- * Cotelark's C interface: page signatures, the signature map of a bucket, stores and loads, and caption fields.
+ * Cotelark's C interface: page signatures, the signature map of a bucket, stores, loads and repairs, and caption fields.
  * The functions are those of the crate `cotelark`, each proved to meet its contract for every input; the archive is made by `rt staticlib cotelark`.
  *
  * Every function answers a status: 0, or the number of the refusal, the lowest that applies.
@@ -35,11 +35,19 @@ extern "C" {
 #define COTELARK_PAGENO 9u   /* page number not allowed */
 #define COTELARK_DAMAGED 10u /* a page asked for has another signature in the image than in its entry; value: the lowest such page */
 
+#define COTELARK_THIN 14u    /* n = 1: one component does not tell which symbol is damaged */
+
 /* What a step answers. */
 #define COTELARK_STEP_REFUSED 0u
 #define COTELARK_STEP_KEPT 1u
 #define COTELARK_STEP_WRITTEN 2u
 #define COTELARK_STEP_FINISHED 3u
+
+/* What a repair answers. */
+#define COTELARK_REPAIR_REFUSED 0u
+#define COTELARK_REPAIR_WHOLE 1u
+#define COTELARK_REPAIR_REPAIRED 2u
+#define COTELARK_REPAIR_BEYOND 3u
 
 /*
  * The n-symbol signature of an object of at most 65,534 symbols; an odd last byte is completed by a zero.
@@ -131,6 +139,20 @@ uint32_t cotelark_ask_page(const uint8_t *image, size_t image_bytes, const uint8
  */
 uint32_t cotelark_load_bucket(const uint8_t *image, size_t image_bytes, const uint8_t *map, size_t map_bytes, uint8_t *table, size_t table_bytes,
                               size_t *value);
+
+/*
+ * Puts a page of the image right that one damaged symbol keeps from its entry's signature.
+ * answer: COTELARK_REPAIR_WHOLE, the page has that signature; COTELARK_REPAIR_REPAIRED, the change of one symbol gives it, and was made;
+ * COTELARK_REPAIR_BEYOND, no change of one symbol does. Only a repair changes the image, and only that symbol; the zero byte that completes an odd page is
+ * no part of the image, and a change that would need another byte there is none.
+ * Writes the symbol's position in the page, its old and its new value, and `marked`: all 0 unless repaired.
+ * marked: 1 for a repair with n = 2, which does not tell two damaged symbols from one: over a page of three zeros, 8, 6, 0 becomes 8, 6, 1. With n of 3
+ * or 4 two damaged symbols are beyond repair. While the entry is that of the undamaged page, one damaged symbol is always restored.
+ * value: 0.
+ * Refused: MAP, MATCH (the image and the map's bucket differ in length), PAGENO (at or above the page count), THIN.
+ */
+uint32_t cotelark_repair_page(uint8_t *image, size_t image_bytes, const uint8_t *map, size_t map_bytes, size_t page, uint32_t *answer,
+                              size_t *position, uint16_t *old_symbol, uint16_t *new_symbol, uint32_t *marked, size_t *value);
 
 /*
  * The cumulative code of a plain caption field of at most 32,768 symbols, written to the start of `output`; and the plain field of a code.

@@ -1,4 +1,5 @@
 -- How an answer crosses to C: as a status, which is 0 or the refusal's number, and numbers beside it.
+use mathlib.Core.Bool.{false, cond}
 use mathlib.Core.List.{List, [], _∷_}
 use Prim.Native.Nat.{ℕ, _*_}
 use lib.ListN.{length, getD}
@@ -24,6 +25,10 @@ use Rattle.store.specs.declared.Answer.{Answer as StepAnswer}
 use Rattle.store.specs.declared.Answer.the-variants as StepAnswer
 use Rattle.store.specs.declared.Place.{Place}
 use Rattle.load.specs.Loads.{asking, loadedPage}
+use Rattle.repair.specs.Repairs as Repairs
+use Rattle.repair.specs.declared.Change.{Change}
+use Rattle.repair.specs.declared.Repair.{Repair}
+use Rattle.repair.specs.declared.Repair.the-variants as Repair
 use Rattle.caption.specs.Searches.{Searched}
 
 pub record Reply : Type 0 where
@@ -161,6 +166,57 @@ wentOf did place image map = record { did = did; place = place; image = image; m
 
 abbrev pub went : Stepped → Went
 went o = wentOf (did (o .answer)) (o .next .page) (o .image) (o .map)
+
+-- ---- a repair: what it found, by number, and the change that it made; where it made none, zeros
+
+abbrev pub WHOLE : ℕ
+WHOLE = 1
+
+abbrev pub REPAIRED : ℕ
+REPAIRED = 2
+
+abbrev pub BEYOND : ℕ
+BEYOND = 3
+
+pub record Tells : Type 0 where
+  pub reply : Reply
+  pub answer : ℕ
+  pub position : ℕ
+  pub old : ℕ
+  pub new : ℕ
+  pub marked : ℕ
+
+abbrev pub tellsOf : Reply → ℕ → ℕ → ℕ → ℕ → ℕ → Tells
+tellsOf reply answer position old new marked =
+    record { reply = reply; answer = answer; position = position; old = old; new = new; marked = marked }
+
+abbrev pub noChange : Change
+noChange = record { position = record { count = 0 }; old = 0; new = 0; marked = false }
+
+abbrev pub changeIn : Repair → Change
+changeIn Repair.Whole = noChange
+changeIn (Repair.Repaired c) = c
+changeIn Repair.Beyond = noChange
+changeIn (Repair.Refused r) = noChange
+
+abbrev pub tellsChange : Reply → ℕ → Change → Tells
+tellsChange reply answer c = tellsOf reply answer (c .position .count) (c .old) (c .new) (cond (c .marked) 1 0)
+
+abbrev pub tells : Repair → Tells
+tells Repair.Whole = tellsChange (replyOf 0 0) WHOLE noChange
+tells (Repair.Repaired c) = tellsChange (replyOf 0 0) REPAIRED c
+tells Repair.Beyond = tellsChange (replyOf 0 0) BEYOND noChange
+tells (Repair.Refused r) = tellsChange (refusing r) REFUSED noChange
+
+pub record Mended : Type 0 where
+  pub tells : Tells
+  pub image : List ℕ
+
+abbrev pub mendedOf : Tells → List ℕ → Mended
+mendedOf tells image = record { tells = tells; image = image }
+
+abbrev pub mended : Repairs.Outcome → Mended
+mended o = mendedOf (tells (o .answer)) (o .image)
 
 -- ---- a part of the image: where it starts, and how many bytes it has; refused, it is empty
 

@@ -10,10 +10,12 @@ ghost use Rattle.listing.specs.Lines.{listing as Map·listing, textOut};
 ghost use Rattle.store.specs.Stores.{storing};
 ghost use Rattle.store.specs.Steps.{stepping};
 ghost use Rattle.load.specs.Loads.{asking, loading};
+ghost use Rattle.repair.specs.Repairs.{repairing};
 ghost use Rattle.caption.specs.Recoding.{encoding, decoding};
 ghost use Rattle.caption.specs.Searches.{searching};
 ghost use Rattle.cotelark.specs.Replies.{replyOf, asked, signatureIn, signedOf, signed, wroteOf, wrote, found, sizesOf, readOf, read};
 ghost use Rattle.cotelark.specs.Replies.{savedOf, saved, placeAt, didOf, wentOf, went, partOf, loadedOf, loaded};
+ghost use Rattle.cotelark.specs.Replies.{tellsOf, mendedOf, mended};
 use backup::Opening;
 use map::Reading;
 use store::Place;
@@ -193,6 +195,33 @@ pub extern "C" fn cotelark_load_bucket(
     ensures { λ r. ⌜ wroteOf (replyOf r (now (value .exit))) (now (table .exit)) ≡ wrote (loading (now (image .entry)) (now (map .entry)) (now (table .entry))) ⌝ }
 {
     replies::filled(load::load_bucket(image, map, table), value)
+}
+
+// Page k of the image, by its entry.
+#[no_mangle]
+pub extern "C" fn cotelark_repair_page(
+    image: &mut [u8],
+    map: &[u8],
+    k: usize,
+    answer: &mut u32,
+    position: &mut usize,
+    old: &mut u16,
+    new: &mut u16,
+    marked: &mut u32,
+    value: &mut usize,
+) -> u32
+    ensures { λ r. ⌜ mendedOf (tellsOf (replyOf r (now (value .exit))) (now (answer .exit)) (now (position .exit)) (now (old .exit)) (now (new .exit)) (now (marked .exit))) (now (image .exit))
+        ≡ mended (repairing (now (image .entry)) (now (map .entry)) k) ⌝ }
+{
+    replies::told(
+        repair::repair_page(image, map, k),
+        answer,
+        position,
+        old,
+        new,
+        marked,
+        value,
+    )
 }
 
 #[no_mangle]

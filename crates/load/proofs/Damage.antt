@@ -12,6 +12,7 @@ use Rattle.units.specs.Refusals.{first, DAMAGED}
 use Rattle.units.specs.declared.Filled.the-variants as Filled
 use Rattle.units.specs.declared.Verdict.{Verdict}
 use Rattle.units.specs.declared.Verdict.the-variants.{Refused}
+use Rattle.units.proofs.First.{first-before, first-named, first-lowest}
 use Rattle.signature.specs.Differences.{differing}
 use Rattle.signature.specs.Kinds.{wide}
 use Rattle.signature.specs.Objects.{Octets, symbols}
@@ -31,7 +32,6 @@ use Rattle.backup.proofs.Opened.{Usable, holds-usable}
 use Rattle.backup.proofs.Pages.{page-length}
 use Rattle.backup.proofs.Sameness.{agrees-is}
 use Rattle.load.specs.Loads.{damaged, pageTests, asking, lowestDamaged, bucketTests, loading}
-use Rattle.load.proofs.First.{first-before, first-named, first-lowest}
 
 module _ (h : Header) (image map : List ℕ) (octets : Octets image) (holds : reading map ≡ Holds h) (long : length image ≡ h .bucket .count)
     (k : ℕ) (inside : k < pages h)

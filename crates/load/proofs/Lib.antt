@@ -1,4 +1,3 @@
 -- The laws of loading.
-pub mod First
 pub mod Answers
 pub mod Damage

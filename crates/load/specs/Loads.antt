@@ -1,10 +1,11 @@
 -- A page or a bucket comes back from the image only if every page asked for has its entry's signature.
-use mathlib.Core.Bool.{Bool, not, cond}
+use mathlib.Core.Bool.{Bool, not}
 use mathlib.Core.List.{List, [], _∷_}
-use Prim.Native.Nat.{ℕ, zero, suc}
+use Prim.Native.Nat.{ℕ}
 use lib.Dec.{leb, ltb}
 use lib.ListN.{length}
 use Rattle.units.specs.Filling.{Outcome, filling}
+use Rattle.units.specs.Naming.{firstNamed}
 use Rattle.units.specs.Refusals.{Test, gives, first, PAGENO, DAMAGED}
 use Rattle.units.specs.declared.Verdict.{Verdict}
 use Rattle.units.specs.declared.Verdict.the-variants.{Allowed, Refused}
@@ -44,11 +45,6 @@ unfoldable pub loadedPage : List ℕ → List ℕ → ℕ → List ℕ
 loadedPage image map k = partUnless (asking image map k) (pageAt (headerOf map .page .count) image k)
 
 -- ---- the bucket
-
--- the first of m numbers from k on that a test names, and the one after them if it names none
-unfoldable pub firstNamed : (ℕ → Bool) → ℕ → ℕ → ℕ
-firstNamed test zero k = k
-firstNamed test (suc m) k = cond (test k) k (firstNamed test m (suc k))
 
 abbrev pub lowestDamaged : Header → List ℕ → List ℕ → ℕ
 lowestDamaged h image map = firstNamed (damaged h image map) (pages h) 0

@@ -4,7 +4,7 @@ use mathlib.Core.Path.{_≡_, refl, sym, ap, ap₂, _∙_}
 use mathlib.Core.Logic.{dite}
 use mathlib.Core.List.{List, _∷_, _++_}
 use Prim.Native.Nat.{ℕ, zero, suc, _+_, _*_, _/_, _%_, _^_, _≤_, _<_, min}
-use native.Mathlib.Nat.{add-zero, add-suc, pow-suc, div-div-eq-div-mul, add-assoc}
+use native.Mathlib.Nat.{add-zero, add-suc, pow-suc, div-div-eq-div-mul, add-assoc, not-suc-le-zero, le-of-suc-le-suc}
 use native.Mathlib.Numerals.{add-one}
 use native.Mathlib.Decide.{decLt}
 use native.Mathlib.Omega.{arith}
@@ -98,3 +98,17 @@ read-written (suc size) bytes at octets inside =
     let low : (getD bytes at 0 + 256 * lowFirst size bytes (suc at)) % 256 ≡ getD bytes at 0 = omega (arith, octets at) in
     let high : (getD bytes at 0 + 256 * lowFirst size bytes (suc at)) / 256 ≡ lowFirst size bytes (suc at) = omega (arith, octets at) in
     rw (drop-cons bytes at 0 here) (ap₂ {C = List ℕ} (λ x l. x ∷ l) low (ap (lowBytes size) high ∙ read-written size bytes (suc at) octets (omega arith)))
+
+-- byte by byte, past the end too
+pub bytes-read : (size : ℕ) (bytes : List ℕ) (at : ℕ) → Octets bytes → (k : ℕ) → k < size → getD bytes (at + k) 0 ≡ getD (lowBytes size (lowFirst size bytes at)) k 0
+unfolding lowFirst lowBytes
+bytes-read zero bytes at octets k inside = absurd (not-suc-le-zero inside)
+bytes-read (suc size) bytes at octets zero inside =
+    let low : getD bytes at 0 ≡ (getD bytes at 0 + 256 * lowFirst size bytes (suc at)) % 256 = omega (arith, octets at) in
+    ap (λ (i : ℕ). getD bytes i 0) (add-zero at) ∙ low
+bytes-read (suc size) bytes at octets (suc k) inside =
+    let high : lowFirst size bytes (suc at) ≡ (getD bytes at 0 + 256 * lowFirst size bytes (suc at)) / 256 = omega (arith, octets at) in
+    let next : at + suc k ≡ suc at + k = omega arith in
+    ap (λ (i : ℕ). getD bytes i 0) next
+    ∙ bytes-read size bytes (suc at) octets k (le-of-suc-le-suc inside)
+    ∙ ap (λ (x : ℕ). getD (lowBytes size x) k 0) high

@@ -6,5 +6,6 @@ pub mod Writing
 pub mod Runs
 pub mod Filling
 pub mod Naming
+pub mod First
 pub mod Noting
 pub mod Answers

@@ -3,12 +3,12 @@
 use mathlib.Core.Path.{_≡_, refl, sym, ap, ap₂, _∙_}
 use mathlib.Core.Logic.{_≢_}
 use mathlib.Core.List.{List, [], _∷_, _++_, append-assoc, append-nil}
-use Prim.Native.Nat.{ℕ, suc, _+_, _≤_, _<_}
+use Prim.Native.Nat.{ℕ, suc, _+_, _-_, _≤_, _<_}
 use native.Mathlib.Nat.{add-zero, add-suc, suc-add, le-refl}
 use native.Mathlib.Numerals.{add-one}
 use native.Mathlib.Omega.{arith}
-use lib.ListN.{length, take, drop, set, length-append, length-set, drop-of-length-le}
-use lib.Seq.{sets, sets-eq, length-sets, length-take-le, set-comm, take-at, drop-at}
+use lib.ListN.{length, getD, take, drop, set, length-append, length-set, drop-of-length-le, List·getD-append}
+use lib.Seq.{sets, sets-eq, length-sets, length-take-le, set-comm, take-at, drop-at, getD-take, getD-drop}
 use borrow.Author.Tests.{le-leb, lt-leb}
 use Rattle.units.specs.Writing.{written, partPut, Put, putOf, put}
 
@@ -117,6 +117,28 @@ module _ (old : List ℕ) (at : ℕ) (new : List ℕ) (fits : at + length new �
   written-after =
       ap (drop (at + length new)) (sym (append-assoc (take at old) new (drop (at + length new) old)))
       ∙ drop-at (take at old ++ new) (drop (at + length new) old) (at + length new) (length-append (take at old) new ∙ ap (λ (k : ℕ). k + length new) front)
+
+  -- element by element
+  pub written-below : (k : ℕ) → k < at → getD (written old at new) k 0 ≡ getD old k 0
+  unfolding written
+  written-below k below =
+      List·getD-append (take at old) (new ++ drop (at + length new) old) 0 k (omega (arith, front)) ∙ getD-take at old k 0 below
+
+  pub written-at : (k : ℕ) → k < length new → getD (written old at new) (at + k) 0 ≡ getD new k 0
+  written-at k inside =
+      sym (getD-drop at (written old at new) k 0)
+      ∙ sym (getD-take (length new) (drop at (written old at new)) k 0 inside)
+      ∙ ap (λ (l : List ℕ). getD l k 0) written-inside
+
+  pub written-above : (k : ℕ) → at + length new ≤ k → getD (written old at new) k 0 ≡ getD old k 0
+  written-above k above =
+      let end : ℕ = at + length new in
+      let place : end + (k - end) ≡ k = omega arith in
+      ap (λ (i : ℕ). getD (written old at new) i 0) (sym place)
+      ∙ sym (getD-drop end (written old at new) (k - end) 0)
+      ∙ ap (λ (l : List ℕ). getD l (k - end) 0) written-after
+      ∙ getD-drop end old (k - end) 0
+      ∙ ap (λ (i : ℕ). getD old i 0) place
 
 -- a part written over one of its length
 pub written-over : (front part back : List ℕ) (at : ℕ) (new : List ℕ) → length front ≡ at → length part ≡ length new

@@ -13,6 +13,11 @@ unfoldable pub named : (ℕ → Bool) → ℕ → List ℕ
 named test zero = []
 named test (suc m) = named test m ++ cond (test m) (m ∷ []) []
 
+-- the first of m numbers from k on that is named, and the one after them if none is
+unfoldable pub firstNamed : (ℕ → Bool) → ℕ → ℕ → ℕ
+firstNamed test zero k = k
+firstNamed test (suc m) k = cond (test k) k (firstNamed test m (suc k))
+
 -- each number is above those before it, so none stands twice
 abbrev pub Upward : List ℕ → Type 0
 Upward l = (i j : ℕ) → i < j → j < length l → getD l i 0 < getD l j 0

@@ -36,6 +36,9 @@ PAGENO = 9
 abbrev pub DAMAGED : ℕ
 DAMAGED = 10
 
+abbrev pub THIN : ℕ
+THIN = 14
+
 pub record Test : Type 0 where
   pub applies : Bool
   pub refusal : Refusal

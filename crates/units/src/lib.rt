@@ -148,6 +148,8 @@ impl Refusal {
     pub const PAGENO: u32 = 9;
     // a page's image signature is not its entry
     pub const DAMAGED: u32 = 10;
+    // one component tells no position
+    pub const THIN: u32 = 14;
 }
 
 // What an operation's tests say of a call.

@@ -7,9 +7,10 @@ use native.Mathlib.Omega.{arith}
 use native.Mathlib.Numerals.{add-one}
 use native.Mathlib.Nat.{zero-add}
 use borrow.Author.Needs.{needs}
+use Rattle.units.specs.Naming.{firstNamed}
+use Rattle.units.proofs.First.{first-none, first-here, first-later}
 use Rattle.map.specs.Files.{pages}
-use Rattle.load.specs.Loads.{firstNamed, damaged, lowestDamaged}
-use Rattle.load.proofs.First.{first-none, first-here, first-later}
+use Rattle.load.specs.Loads.{damaged, lowestDamaged}
 use Rattle.load.proofs.lowest_damaged.Statement.{statement}
 use Rattle.load.proofs.lowest_damaged.Tie as tie
 

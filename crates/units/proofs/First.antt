@@ -6,8 +6,8 @@ use mathlib.Core.Bool.{Bool, true, false}
 use Prim.Native.Nat.{ℕ, zero, suc, _+_, _≤_, _<_}
 use native.Mathlib.Decide.{decLt, ℕ-discrete}
 use native.Mathlib.Omega.{arith}
+use Rattle.units.specs.Naming.{firstNamed}
 use Rattle.units.proofs.Refusing.{not-both}
-use Rattle.load.specs.Loads.{firstNamed}
 
 module _ (test : ℕ → Bool) where
   pub first-none : (k : ℕ) → firstNamed test 0 k ≡ k

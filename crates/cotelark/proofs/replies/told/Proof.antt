@@ -1,0 +1,87 @@
+use Rattle.cotelark.specs.Replies.{Reply, changeIn, tellsOf, tellsChange, tells, WHOLE, REPAIRED, BEYOND, REFUSED}
+use Rattle.repair.specs.declared.Repair.{Repair}
+use Rattle.repair.specs.declared.Change.{Change}
+use Prim.Native.Nat.{ℕ}
+use mathlib.Core.Bool.{cond}
+use mathlib.Core.Path.{_≡_, refl, sym, ap, _∙_}
+use borrow.Author.Needs.{needs}
+use Rattle.cotelark.proofs.replies.told.Statement.{statement}
+use Rattle.cotelark.proofs.replies.told.Tie as tie
+use Rattle.cotelark.proofs.replies.told.Reads as reads
+use Rattle.cotelark.proofs.replies.told.Lts as lts
+use Rattle.cotelark.proofs.replies.change_in.Reads as change-in-reads
+use Rattle.cotelark.proofs.replies.done.Reads as done-reads
+use Rattle.cotelark.proofs.replies.one_if.Reads as one-if-reads
+use Rattle.cotelark.proofs.replies.refused.Reads as refused-reads
+
+-- the change as it was read from the answer, beside the answer's own reply and number
+crosses : (repair : Repair) (c : Change) → c ≡ changeIn repair → (marked : ℕ) → marked ≡ cond (c .marked) 1 0 → (reply due : Reply) (number : ℕ) → reply ≡ due
+    → (it : Repair) → repair ≡ it → tells it ≡ tellsChange due number (changeIn it)
+    → tellsOf reply number (c .position .count) (c .old) (c .new) marked ≡ tells repair
+crosses repair c told marked one reply due number replied it is says =
+    ap (tellsOf reply number (c .position .count) (c .old) (c .new)) one
+    ∙ ap (λ (r : Reply). tellsChange r number c) replied
+    ∙ ap (tellsChange due number) (told ∙ ap changeIn is)
+    ∙ sym says
+    ∙ sym (ap tells is)
+
+change-in-requires : tie.Need-change-in-requires
+change-in-requires c κs = search needs
+
+one-if-requires : tie.Need-one-if-requires
+one-if-requires c κs = search needs
+
+enum-told : tie.Need-enum-told
+enum-told c = search needs
+
+done-requires : tie.Need-done-requires
+done-requires c κs = search needs
+
+enum-told-2 : tie.Need-enum-told-2
+enum-told-2 c = search needs
+
+done-requires-2 : tie.Need-done-requires-2
+done-requires-2 c κs = search needs
+
+enum-told-3 : tie.Need-enum-told-3
+enum-told-3 c = search needs
+
+done-requires-3 : tie.Need-done-requires-3
+done-requires-3 c κs = search needs
+
+enum-known-repair : tie.Need-enum-known-repair
+enum-known-repair c = search needs
+
+refused-requires : tie.Need-refused-requires
+refused-requires c κs = search needs
+
+returns : tie.Need-returns
+returns c = crosses _ _ (c .before .before .before .before .before .change-in .ensures) _ (c .before .before .before .before .one-if .ensures) _ _ WHOLE (c .done .ensures) _ (c .before .before .enum-told .given .1) refl
+
+returns-2 : tie.Need-returns-2
+returns-2 c = crosses _ _ (c .before .before .before .before .before .change-in .ensures) _ (c .before .before .before .before .one-if .ensures) _ _ REPAIRED (c .done2 .ensures) _ (c .before .before .enum-told2 .given .1) refl
+
+returns-3 : tie.Need-returns-3
+returns-3 c = crosses _ _ (c .before .before .before .before .before .change-in .ensures) _ (c .before .before .before .before .one-if .ensures) _ _ BEYOND (c .done3 .ensures) _ (c .before .before .enum-told3 .given .1) refl
+
+returns-4 : tie.Need-returns-4
+returns-4 c = crosses _ _ (c .before .before .before .before .before .before .change-in .ensures) _ (c .before .before .before .before .before .one-if .ensures) _ _ REFUSED (c .refused .ensures) _ (c .before .before .before .repair .given .1) refl
+
+pub told-spec : {M : Type 1} → statement M
+told-spec =
+    tie.close
+    (tie.spec
+    change-in-requires
+    one-if-requires
+    enum-told
+    done-requires
+    enum-told-2
+    done-requires-2
+    enum-told-3
+    done-requires-3
+    enum-known-repair
+    refused-requires
+    returns
+    returns-2
+    returns-3
+    returns-4)

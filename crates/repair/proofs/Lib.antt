@@ -1,0 +1,8 @@
+-- The laws of changes and repairs, from a changed page up.
+pub mod Changed
+pub mod Naming
+pub mod Checking
+pub mod Finding
+pub mod Tags
+pub mod Mending
+pub mod Lending

@@ -1,0 +1,39 @@
+use Rattle.repair.proofs.Mending.{mended-whole, mended-else}
+use Rattle.backup.specs.Backups.{same}
+use Rattle.signature.specs.declared.Signature.{Signature}
+use mathlib.Core.Bool.{true, false}
+use mathlib.Core.Path.{_≡_, sym, ap, _∙_}
+use borrow.Author.Needs.{needs}
+use Rattle.repair.proofs.diagnose.Statement.{statement}
+use Rattle.repair.proofs.diagnose.Tie as tie
+use Rattle.repair.proofs.diagnose.Reads as reads
+use Rattle.repair.proofs.diagnose.Lts as lts
+use Rattle.backup.proofs.same.Reads as same-reads
+use Rattle.repair.proofs.find.Reads as find-reads
+use Rattle.signature.proofs.own.Reads as own-reads
+
+own-requires : tie.Need-own-requires
+own-requires c κs = search needs
+
+same-requires : tie.Need-same-requires
+same-requires c κs = search needs
+
+returns : tie.Need-returns
+returns c =
+    let args : _ = c .before .before .before .before .before .args in
+    let so : same (c .before .before .own .result) (args .entry .signature) ≡ true = sym (c .before .same .ensures) ∙ c .if1 .taken in
+    sym (mended-whole (args .entry) (args .page .now) (ap (λ (t : Signature). same t (args .entry .signature)) (sym (c .before .before .own .ensures)) ∙ so))
+
+find-requires : tie.Need-find-requires
+find-requires c κs =
+    let (some, four, short) = c .before .before .before .before .before .pre in
+    (some, four, short, c .before .before .own .ensures, sym (c .before .same .ensures) ∙ c .if1 .left)
+
+returns-2 : tie.Need-returns-2
+returns-2 c =
+    let args : _ = c .before .before .before .before .before .before .args in
+    let so : same (c .before .before .before .own .result) (args .entry .signature) ≡ false = sym (c .before .before .same .ensures) ∙ c .before .if1 .left in
+    c .find .ensures ∙ sym (mended-else (args .entry) (args .page .now) (ap (λ (t : Signature). same t (args .entry .signature)) (sym (c .before .before .before .own .ensures)) ∙ so))
+
+pub diagnose-spec : {M : Type 1} → statement M
+diagnose-spec = tie.close (tie.spec own-requires same-requires returns find-requires returns-2)

@@ -1,0 +1,3 @@
+-- What a change of one symbol is, and what repair answers and leaves, for every input.
+pub mod Changes
+pub mod Repairs
