@@ -15,6 +15,7 @@ use Rattle.cotelark.proofs.cotelark_load_bucket.Reads as load-bucket
 use Rattle.cotelark.proofs.cotelark_load_page.Reads as load-page
 use Rattle.cotelark.proofs.cotelark_make_map.Reads as make-map
 use Rattle.cotelark.proofs.cotelark_read_map.Reads as read-map
+use Rattle.cotelark.proofs.cotelark_repair_page.Reads as repair-page
 use Rattle.cotelark.proofs.cotelark_search.Reads as search
 use Rattle.cotelark.proofs.cotelark_sign.Reads as sign
 use Rattle.cotelark.proofs.cotelark_step.Reads as step
@@ -62,7 +63,7 @@ pub cotelark-list-map-one-answer : (κs : _) (a : _) (r s : ℕ) (x y : _) → l
     → (r ≡ s) × (now (x .1 .1 .0) ≡ now (y .1 .1 .0)) × (now (x .1 .0) ≡ now (y .1 .0))
 cotelark-list-map-one-answer κs a r s x y p q = same-wrote p q
 
--- ---- stores and loads
+-- ---- stores, loads and repairs
 
 pub cotelark-store-one-answer : (κs : _) (a : _) (r s : ℕ) (x y : _) → store.Post κs a r x → store.Post κs a s y
     → (r ≡ s) × (now (x .1 .1 .1 .1 .0) ≡ now (y .1 .1 .1 .1 .0)) × (now (x .1 .0) ≡ now (y .1 .0)) × (now (x .1 .1 .0) ≡ now (y .1 .1 .0))
@@ -91,6 +92,22 @@ cotelark-ask-page-one-answer κs a r s x y p q = same-reply p q
 pub cotelark-load-bucket-one-answer : (κs : _) (a : _) (r s : ℕ) (x y : _) → load-bucket.Post κs a r x → load-bucket.Post κs a s y
     → (r ≡ s) × (now (x .1 .1 .1 .0) ≡ now (y .1 .1 .1 .0)) × (now (x .1 .1 .0) ≡ now (y .1 .1 .0))
 cotelark-load-bucket-one-answer κs a r s x y p q = same-wrote p q
+
+pub cotelark-repair-page-one-answer : (κs : _) (a : _) (r s : ℕ) (x y : _) → repair-page.Post κs a r x → repair-page.Post κs a s y
+    → (r ≡ s) × (now (x .1 .1 .1 .1 .1 .1 .1 .1 .0) ≡ now (y .1 .1 .1 .1 .1 .1 .1 .1 .0)) × (now (x .1 .1 .1 .0) ≡ now (y .1 .1 .1 .0))
+    × (now (x .1 .1 .1 .1 .0) ≡ now (y .1 .1 .1 .1 .0)) × (now (x .1 .1 .1 .1 .1 .0) ≡ now (y .1 .1 .1 .1 .1 .0))
+    × (now (x .1 .1 .1 .1 .1 .1 .0) ≡ now (y .1 .1 .1 .1 .1 .1 .0)) × (now (x .1 .1 .1 .1 .1 .1 .1 .0) ≡ now (y .1 .1 .1 .1 .1 .1 .1 .0)) × (now (x .0) ≡ now (y .0))
+cotelark-repair-page-one-answer κs a r s x y p q =
+    let same : _ = p ∙ sym q in (
+      ap (λ o. o .mended .reply .status) same,
+      ap (λ o. o .mended .reply .value) same,
+      ap (λ o. o .mended .answer) same,
+      ap (λ o. o .mended .position) same,
+      ap (λ o. o .mended .old) same,
+      ap (λ o. o .mended .new) same,
+      ap (λ o. o .mended .marked) same,
+      ap (λ o. o .image) same,
+    )
 
 -- ---- caption fields
 

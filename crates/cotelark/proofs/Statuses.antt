@@ -39,10 +39,14 @@ use Rattle.store.specs.declared.Place.{Place}
 use Rattle.store.proofs.Answers.{step-refused, store-refused}
 use Rattle.load.specs.Loads.{asking, loadTests, loading, loadBucketTests}
 use Rattle.load.proofs.Answers.{ask-refused, load-bucket-refused}
+use Rattle.repair.specs.Repairs.{told as Repair·told, repairing, repairTests}
+use Rattle.repair.specs.declared.Repair.{Repair}
+use Rattle.repair.specs.declared.Repair.the-variants as Repair
+use Rattle.repair.proofs.Answers.{repair-refused}
 use Rattle.caption.specs.Recoding.{recoding, recodeTests, encoding, decoding}
 use Rattle.caption.specs.Searches.{searching, searchTests}
 use Rattle.caption.proofs.Answers.{recode-refused, search-refused}
-use Rattle.cotelark.specs.Replies.{asked, filled, listed, signed, read, did}
+use Rattle.cotelark.specs.Replies.{asked, filled, listed, signed, read, did, mended}
 
 -- ---- a status is that of what the table says of the answer
 
@@ -63,6 +67,12 @@ did-told (StepAnswer.Kept k) = refl
 did-told (StepAnswer.Written k) = refl
 did-told StepAnswer.Finished = refl
 did-told (StepAnswer.Refused r) = refl
+
+mended-told : (r : Repair) → mended r .reply .status ≡ asked (Repair·told r) .status
+mended-told Repair.Whole = refl
+mended-told (Repair.Repaired c) = refl
+mended-told Repair.Beyond = refl
+mended-told (Repair.Refused r) = refl
 
 -- ---- one law for every operation
 
@@ -118,6 +128,10 @@ load-page-zero image map k = zero-when-allowed (loadTests image map k) tt _ _ re
 pub load-bucket-zero : (image map table : List ℕ)
     → (filled (loading image map table .answer) .status ≡ 0) ↔ (Filled·told (loading image map table .answer) ≡ Allowed)
 load-bucket-zero image map table = zero-when-allowed (loadBucketTests image map table) tt _ _ (filled-told (loading image map table .answer)) (load-bucket-refused image map table)
+
+pub repair-page-zero : (image map : List ℕ) (k : ℕ)
+    → (mended (repairing image map k .answer) .reply .status ≡ 0) ↔ (Repair·told (repairing image map k .answer) ≡ Allowed)
+repair-page-zero image map k = zero-when-allowed (repairTests image map k) tt _ _ (mended-told (repairing image map k .answer)) (repair-refused image map k)
 
 recode-zero : (new caption output : List ℕ)
     → (filled (recoding new caption output .answer) .status ≡ 0) ↔ (Filled·told (recoding new caption output .answer) ≡ Allowed)

@@ -178,7 +178,7 @@ REPAIRED = 2
 abbrev pub BEYOND : ℕ
 BEYOND = 3
 
-pub record Tells : Type 0 where
+pub record Mended : Type 0 where
   pub reply : Reply
   pub answer : ℕ
   pub position : ℕ
@@ -186,8 +186,8 @@ pub record Tells : Type 0 where
   pub new : ℕ
   pub marked : ℕ
 
-abbrev pub tellsOf : Reply → ℕ → ℕ → ℕ → ℕ → ℕ → Tells
-tellsOf reply answer position old new marked =
+abbrev pub mendedOf : Reply → ℕ → ℕ → ℕ → ℕ → ℕ → Mended
+mendedOf reply answer position old new marked =
     record { reply = reply; answer = answer; position = position; old = old; new = new; marked = marked }
 
 abbrev pub noChange : Change
@@ -199,24 +199,24 @@ changeIn (Repair.Repaired c) = c
 changeIn Repair.Beyond = noChange
 changeIn (Repair.Refused r) = noChange
 
-abbrev pub tellsChange : Reply → ℕ → Change → Tells
-tellsChange reply answer c = tellsOf reply answer (c .position .count) (c .old) (c .new) (cond (c .marked) 1 0)
+abbrev pub mendedBy : Reply → ℕ → Change → Mended
+mendedBy reply answer c = mendedOf reply answer (c .position .count) (c .old) (c .new) (cond (c .marked) 1 0)
 
-abbrev pub tells : Repair → Tells
-tells Repair.Whole = tellsChange (replyOf 0 0) WHOLE noChange
-tells (Repair.Repaired c) = tellsChange (replyOf 0 0) REPAIRED c
-tells Repair.Beyond = tellsChange (replyOf 0 0) BEYOND noChange
-tells (Repair.Refused r) = tellsChange (refusing r) REFUSED noChange
+abbrev pub mended : Repair → Mended
+mended Repair.Whole = mendedBy (replyOf 0 0) WHOLE noChange
+mended (Repair.Repaired c) = mendedBy (replyOf 0 0) REPAIRED c
+mended Repair.Beyond = mendedBy (replyOf 0 0) BEYOND noChange
+mended (Repair.Refused r) = mendedBy (refusing r) REFUSED noChange
 
-pub record Mended : Type 0 where
-  pub tells : Tells
+pub record Righted : Type 0 where
+  pub mended : Mended
   pub image : List ℕ
 
-abbrev pub mendedOf : Tells → List ℕ → Mended
-mendedOf tells image = record { tells = tells; image = image }
+abbrev pub rightedOf : Mended → List ℕ → Righted
+rightedOf mended image = record { mended = mended; image = image }
 
-abbrev pub mended : Repairs.Outcome → Mended
-mended o = mendedOf (tells (o .answer)) (o .image)
+abbrev pub righted : Repairs.Outcome → Righted
+righted o = rightedOf (mended (o .answer)) (o .image)
 
 -- ---- a part of the image: where it starts, and how many bytes it has; refused, it is empty
 

@@ -15,7 +15,7 @@ ghost use Rattle.caption.specs.Recoding.{encoding, decoding};
 ghost use Rattle.caption.specs.Searches.{searching};
 ghost use Rattle.cotelark.specs.Replies.{replyOf, asked, signatureIn, signedOf, signed, wroteOf, wrote, found, sizesOf, readOf, read};
 ghost use Rattle.cotelark.specs.Replies.{savedOf, saved, placeAt, didOf, wentOf, went, partOf, loadedOf, loaded};
-ghost use Rattle.cotelark.specs.Replies.{tellsOf, mendedOf, mended};
+ghost use Rattle.cotelark.specs.Replies.{mendedOf, rightedOf, righted};
 use backup::Opening;
 use map::Reading;
 use store::Place;
@@ -210,10 +210,10 @@ pub extern "C" fn cotelark_repair_page(
     marked: &mut u32,
     value: &mut usize,
 ) -> u32
-    ensures { λ r. ⌜ mendedOf (tellsOf (replyOf r (now (value .exit))) (now (answer .exit)) (now (position .exit)) (now (old .exit)) (now (new .exit)) (now (marked .exit))) (now (image .exit))
-        ≡ mended (repairing (now (image .entry)) (now (map .entry)) k) ⌝ }
+    ensures { λ r. ⌜ rightedOf (mendedOf (replyOf r (now (value .exit))) (now (answer .exit)) (now (position .exit)) (now (old .exit)) (now (new .exit)) (now (marked .exit))) (now (image .exit))
+        ≡ righted (repairing (now (image .entry)) (now (map .entry)) k) ⌝ }
 {
-    replies::told(
+    replies::mended(
         repair::repair_page(image, map, k),
         answer,
         position,

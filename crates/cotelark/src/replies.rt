@@ -3,7 +3,7 @@ ghost use mathlib.Core.Path.{_≡_};
 ghost use mathlib.Core.Bool.{cond};
 ghost use Rattle.cotelark.specs.Replies.{replyOf, refusing, asked as Reply·asked, filled as Reply·filled, listed as Reply·listed};
 ghost use Rattle.cotelark.specs.Replies.{signatureIn, signedOf, signed as Reply·signed, didOf, did as Reply·did};
-ghost use Rattle.cotelark.specs.Replies.{changeIn, tellsOf, tells};
+ghost use Rattle.cotelark.specs.Replies.{changeIn, mendedOf, mended as Reply·mended};
 use repair::Change;
 use repair::Repair;
 use signature::Signature;
@@ -96,7 +96,7 @@ pub fn did(answer: store::Answer, number: &mut u32, value: &mut usize) -> u32
 }
 
 // What a repair found. What it says of a change is 0 where it made none.
-pub fn told(
+pub fn mended(
     repair: Repair,
     answer: &mut u32,
     position: &mut usize,
@@ -105,7 +105,7 @@ pub fn told(
     marked: &mut u32,
     value: &mut usize,
 ) -> u32
-    ensures { λ r. ⌜ tellsOf (replyOf r (now (value .exit))) (now (answer .exit)) (now (position .exit)) (now (old .exit)) (now (new .exit)) (now (marked .exit)) ≡ tells repair ⌝ }
+    ensures { λ r. ⌜ mendedOf (replyOf r (now (value .exit))) (now (answer .exit)) (now (position .exit)) (now (old .exit)) (now (new .exit)) (now (marked .exit)) ≡ Reply·mended repair ⌝ }
 {
     let c = change_in(repair);
     *position = c.position.count;

@@ -6,3 +6,4 @@ pub mod Finding
 pub mod Tags
 pub mod Mending
 pub mod Lending
+pub mod Answers

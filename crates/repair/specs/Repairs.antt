@@ -79,3 +79,10 @@ repairTests image map k = openTests (length image) (length image) map (pageTests
 
 unfoldable pub repairing : List ℕ → List ℕ → ℕ → Outcome
 repairing image map k = unless (first (repairTests image map k)) (headerOf map) image map k
+
+-- what the table says of an answer
+abbrev pub told : Repair → Verdict
+told Whole = Verdict.Allowed
+told (Repaired c) = Verdict.Allowed
+told Beyond = Verdict.Allowed
+told (Refused r) = Verdict.Refused r

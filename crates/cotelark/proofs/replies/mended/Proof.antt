@@ -1,14 +1,14 @@
-use Rattle.cotelark.specs.Replies.{Reply, changeIn, tellsOf, tellsChange, tells, WHOLE, REPAIRED, BEYOND, REFUSED}
+use Rattle.cotelark.specs.Replies.{Reply, changeIn, mendedOf, mendedBy, mended, WHOLE, REPAIRED, BEYOND, REFUSED}
 use Rattle.repair.specs.declared.Repair.{Repair}
 use Rattle.repair.specs.declared.Change.{Change}
 use Prim.Native.Nat.{ℕ}
 use mathlib.Core.Bool.{cond}
 use mathlib.Core.Path.{_≡_, refl, sym, ap, _∙_}
 use borrow.Author.Needs.{needs}
-use Rattle.cotelark.proofs.replies.told.Statement.{statement}
-use Rattle.cotelark.proofs.replies.told.Tie as tie
-use Rattle.cotelark.proofs.replies.told.Reads as reads
-use Rattle.cotelark.proofs.replies.told.Lts as lts
+use Rattle.cotelark.proofs.replies.mended.Statement.{statement}
+use Rattle.cotelark.proofs.replies.mended.Tie as tie
+use Rattle.cotelark.proofs.replies.mended.Reads as reads
+use Rattle.cotelark.proofs.replies.mended.Lts as lts
 use Rattle.cotelark.proofs.replies.change_in.Reads as change-in-reads
 use Rattle.cotelark.proofs.replies.done.Reads as done-reads
 use Rattle.cotelark.proofs.replies.one_if.Reads as one-if-reads
@@ -16,14 +16,14 @@ use Rattle.cotelark.proofs.replies.refused.Reads as refused-reads
 
 -- the change as it was read from the answer, beside the answer's own reply and number
 crosses : (repair : Repair) (c : Change) → c ≡ changeIn repair → (marked : ℕ) → marked ≡ cond (c .marked) 1 0 → (reply due : Reply) (number : ℕ) → reply ≡ due
-    → (it : Repair) → repair ≡ it → tells it ≡ tellsChange due number (changeIn it)
-    → tellsOf reply number (c .position .count) (c .old) (c .new) marked ≡ tells repair
+    → (it : Repair) → repair ≡ it → mended it ≡ mendedBy due number (changeIn it)
+    → mendedOf reply number (c .position .count) (c .old) (c .new) marked ≡ mended repair
 crosses repair c told marked one reply due number replied it is says =
-    ap (tellsOf reply number (c .position .count) (c .old) (c .new)) one
-    ∙ ap (λ (r : Reply). tellsChange r number c) replied
-    ∙ ap (tellsChange due number) (told ∙ ap changeIn is)
+    ap (mendedOf reply number (c .position .count) (c .old) (c .new)) one
+    ∙ ap (λ (r : Reply). mendedBy r number c) replied
+    ∙ ap (mendedBy due number) (told ∙ ap changeIn is)
     ∙ sym says
-    ∙ sym (ap tells is)
+    ∙ sym (ap mended is)
 
 change-in-requires : tie.Need-change-in-requires
 change-in-requires c κs = search needs
@@ -67,8 +67,8 @@ returns-3 c = crosses _ _ (c .before .before .before .before .before .change-in 
 returns-4 : tie.Need-returns-4
 returns-4 c = crosses _ _ (c .before .before .before .before .before .before .change-in .ensures) _ (c .before .before .before .before .before .one-if .ensures) _ _ REFUSED (c .refused .ensures) _ (c .before .before .before .repair .given .1) refl
 
-pub told-spec : {M : Type 1} → statement M
-told-spec =
+pub mended-spec : {M : Type 1} → statement M
+mended-spec =
     tie.close
     (tie.spec
     change-in-requires

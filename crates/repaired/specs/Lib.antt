@@ -1,0 +1,2 @@
+-- What the theorems on repairs speak of.
+pub mod Damage
