@@ -202,10 +202,10 @@ module _ (h : Header) (image map : List ℕ) (k : ℕ) (o : Open h image map k) 
       wrong false c so e = refl
 
       there : ((c : Change) × (repairing image map k .answer ≡ Repaired c)) → (agrees h (entryAt (h .n) map) image k ≡ false) × Repairable h image map k
-      there (c, is) = (wrong _ c refl (named c is), c .position .count, c .new, by c is .inside, by c is .fitted)
+      there (c, is) = (wrong _ c refl (named c is), (c .position .count, c .new, by c is .inside, by c is .fitted))
 
       back-again : (agrees h (entryAt (h .n) map) image k ≡ false) × Repairable h image map k → (c : Change) × (repairing image map k .answer ≡ Repaired c)
-      back-again (so, i, x, inside, e) =
+      back-again (so, (i, x, inside, e)) =
           let f : Fitting wide (entry .signature) page i x = fitting wide (entry .signature) page i x e in (
             changeOf (h .n) page i x,
             ap (λ (q : Outcome). q .answer) answers
