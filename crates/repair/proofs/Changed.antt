@@ -10,21 +10,19 @@ use native.Mathlib.Decide.{decLt}
 use native.Mathlib.Omega.{arith}
 use lib.ListN.{length, getD, take, drop, set, length-take, List·getD-eq-default}
 use lib.Seq.{take-all, getD-take, getD-drop}
-use borrow.Author.Tests.{le-leb}
 use Rattle.units.specs.Writing.{written, partPut}
 use Rattle.units.proofs.Pieces.{piece-begins}
 use Rattle.units.proofs.Writing.{written-length, written-one, written-below, written-at, written-above}
-use Rattle.field.specs.Field.{Field, _⊕_, product, power, α}
+use Rattle.field.specs.Field.{_⊕_, product, power, α}
 use Rattle.field.proofs.Tests.{formed}
 use Rattle.signature.specs.Edits.{Edited}
 use Rattle.signature.specs.Kinds.{Kind, wide}
 use Rattle.signature.specs.Objects.{Octets, lowFirst, lowBytes, symbol, symbols}
-use Rattle.signature.specs.Operations.{own, signing, editing}
+use Rattle.signature.specs.Operations.{own}
 use Rattle.signature.specs.Signatures.{component, signature}
-use Rattle.signature.specs.declared.Answer.the-variants.{Signed}
 use Rattle.signature.proofs.Components.{component-one}
 use Rattle.signature.proofs.Editing.{edit-law}
-use Rattle.signature.proofs.EveryKind.{Sound, wide-sound, edit-of-page}
+use Rattle.signature.proofs.EveryKind.{Sound, wide-sound}
 use Rattle.signature.proofs.Numbers.{low-bytes-length, written-read, two-bytes, two-bytes-put, bytes-read}
 use Rattle.signature.proofs.Octets.{low-first-lt, low-bytes-octets, append-octets}
 use Rattle.signature.proofs.Parts.{symbols-whole, symbol-same, byte-inside}

@@ -37,19 +37,32 @@ module _ (n : ℕ) (page : List ℕ) (i x : ℕ) (some : 1 ≤ n) (four : n ≤ 
 same-signed : (s t : Signature) → Signed s ≡ Signed t → s ≡ t
 same-signed s t e = cc
 
-module _ (s mine : Signature) (page : List ℕ) (i x : ℕ) (octets : Octets page) (some : 2 ≤ s .n) (four : s .n ≤ 4) (short : symbols 2 page ≤ 65534)
-    (signed : mine ≡ own wide (s .n) page) (inside : i < symbols 2 page) (stays : eqb (symbol 2 (changed wide page i x) i) x ≡ true)
-    (old new : List ℕ) (old-is : old ≡ lowBytes 2 (symbol 2 page i)) (new-is : new ≡ lowBytes 2 x)
-    (answer : Answer) (edited : answer ≡ editing wide mine i old new) where
+-- x is to be symbol i of a page that holds it, and an edit of the page's own signature answered
+pub record Edits (s mine : Signature) (page : List ℕ) (i x : ℕ) (old new : List ℕ) (answer : Answer) : Type 0 where
+  pub octets : Octets page
+  pub some : 2 ≤ s .n
+  pub four : s .n ≤ 4
+  pub short : symbols 2 page ≤ 65534
+  pub signed : mine ≡ own wide (s .n) page
+  pub inside : i < symbols 2 page
+  pub stays : eqb (symbol 2 (changed wide page i x) i) x ≡ true
+  pub old-is : old ≡ lowBytes 2 (symbol 2 page i)
+  pub new-is : new ≡ lowBytes 2 x
+  pub edited : answer ≡ editing wide mine i old new
+
+module _ {s mine : Signature} {page : List ℕ} {i x : ℕ} {old new : List ℕ} {answer : Answer} (q : Edits s mine page i x old new answer) where
   answered : answer ≡ Signed (own wide (s .n) (changed wide page i x))
   answered =
-      edited
-      ∙ ap (λ (t : Signature). editing wide t i old new) signed
-      ∙ ap₂ (editing wide (own wide (s .n) page) i) old-is new-is
-      ∙ changed-signed (s .n) page i x (omega arith) four short inside octets (eqb-true _ _ stays)
+      q .edited
+      ∙ ap (λ (t : Signature). editing wide t i old new) (q .signed)
+      ∙ ap₂ (editing wide (own wide (s .n) page) i) (q .old-is) (q .new-is)
+      ∙ changed-signed (s .n) page i x (omega (arith, q .some)) (q .four) (q .short) (q .inside) (q .octets) (eqb-true _ _ (q .stays))
 
   pub checked : (t : Signature) → answer ≡ Signed t → same t s ≡ fits wide s page i x
-  checked t e = ap (λ (u : Signature). same u s) (same-signed t _ (sym e ∙ answered)) ∙ sym (held wide s page i x stays)
+  checked t e = ap (λ (u : Signature). same u s) (same-signed t _ (sym e ∙ answered)) ∙ sym (held wide s page i x (q .stays))
 
   pub never-refused : (r : Refusal) → answer ≡ Refused r → ⊥
-  never-refused r e = let z : _≡_ {A = Answer} (Refused r) (Signed (own wide (s .n) (changed wide page i x))) = sym e ∙ answered in let no : _≡_ {A = ℕ} 0 1 = cc in omega arith
+  never-refused r e =
+      let both : _≡_ {A = Answer} (Refused r) (Signed (own wide (s .n) (changed wide page i x))) = sym e ∙ answered in
+      let z : _≡_ {A = ℕ} 0 1 = cc in
+      omega arith

@@ -66,43 +66,53 @@ module _ (s : Signature) (page : List ℕ) where
 
 -- ---- the position and the value that the first two components name
 
-module _ (s mine : Signature) (page : List ℕ) (octets : Octets page) (some : 2 ≤ s .n) (four : s .n ≤ 4) (short : symbols 2 page ≤ 65534)
-    (signed : mine ≡ own wide (s .n) page) (wrong : same mine s ≡ false)
-    (d e m i : ℕ) (d-is : d ≡ mine .s1 ⊕ s .s1) (e-is : e ≡ mine .s2 ⊕ s .s2) (m-is : m ≡ symbols 2 page)
-    (i-is : i ≡ firstNamed (λ k. eqb (product GF16 d (power GF16 α k)) e) m 0) where
+-- a page of another signature than s; the two differences d and e, and the first of its m positions, i, that makes the one of the other
+pub record Sought (s mine : Signature) (page : List ℕ) (d e m i : ℕ) : Type 0 where
+  pub octets : Octets page
+  pub some : 2 ≤ s .n
+  pub four : s .n ≤ 4
+  pub short : symbols 2 page ≤ 65534
+  pub signed : mine ≡ own wide (s .n) page
+  pub wrong : same mine s ≡ false
+  pub first-off : d ≡ mine .s1 ⊕ s .s1
+  pub second-off : e ≡ mine .s2 ⊕ s .s2
+  pub count-is : m ≡ symbols 2 page
+  pub place-is : i ≡ firstNamed (λ k. eqb (product GF16 d (power GF16 α k)) e) m 0
+
+module _ {s mine : Signature} {page : List ℕ} {d e m i : ℕ} (q : Sought s mine page d e m i) where
   within : symbols 2 page ≤ 65535
-  within = omega arith
+  within = omega (arith, q .short)
 
   another : same (own wide (s .n) page) s ≡ false
-  another = ap (λ (t : Signature). same t s) (sym signed) ∙ wrong
+  another = ap (λ (t : Signature). same t s) (sym (q .signed)) ∙ q .wrong
 
-  first-off : d ≡ handed (own wide (s .n) page) 1 ⊕ s .s1
-  first-off = d-is ∙ ap (λ (t : Signature). t .s1 ⊕ s .s1) signed
+  one-off : d ≡ handed (own wide (s .n) page) 1 ⊕ s .s1
+  one-off = q .first-off ∙ ap (λ (t : Signature). t .s1 ⊕ s .s1) (q .signed)
 
-  second-off : e ≡ handed (own wide (s .n) page) 2 ⊕ s .s2
-  second-off = e-is ∙ ap (λ (t : Signature). t .s2 ⊕ s .s2) signed
+  two-off : e ≡ handed (own wide (s .n) page) 2 ⊕ s .s2
+  two-off = q .second-off ∙ ap (λ (t : Signature). t .s2 ⊕ s .s2) (q .signed)
 
   -- a change that fits is at that position
   placed : (k y : ℕ) → k < symbols 2 page → fits wide s page k y ≡ true → k ≡ i
   placed k y inside e′ =
       sym
-      (i-is
-      ∙ ap (λ (z : ℕ). firstNamed (λ k. eqb (product GF16 z (power GF16 α k)) e) m 0) first-off
-      ∙ ap (λ (z : ℕ). firstNamed (λ k. eqb (product GF16 (handed (own wide (s .n) page) 1 ⊕ s .s1) (power GF16 α k)) z) m 0) second-off
-      ∙ ap (λ (z : ℕ). firstNamed (named wide wide-sound s page octets some four within another) z 0) m-is
-      ∙ position-named wide wide-sound s page octets some four within another k y inside (fitting wide s page k y e′))
+      (q .place-is
+      ∙ ap (λ (z : ℕ). firstNamed (λ k. eqb (product GF16 z (power GF16 α k)) e) m 0) one-off
+      ∙ ap (λ (z : ℕ). firstNamed (λ k. eqb (product GF16 (handed (own wide (s .n) page) 1 ⊕ s .s1) (power GF16 α k)) z) m 0) two-off
+      ∙ ap (λ (z : ℕ). firstNamed (named wide wide-sound s page (q .octets) (q .some) (q .four) within another) z 0) (q .count-is)
+      ∙ position-named wide wide-sound s page (q .octets) (q .some) (q .four) within another k y inside (fitting wide s page k y e′))
 
   pub find-past : m ≤ i → put s page ≡ Beyond
-  find-past past = put-none s page (λ k y inside e′. let at : k ≡ i = placed k y inside e′ in omega arith)
+  find-past past = put-none s page (λ k y inside e′. let at : k ≡ i = placed k y inside e′ in omega (arith, q .count-is))
 
   module _ (x : ℕ) (x-is : x ≡ symbol 2 page i ⊕ product GF16 d (power GF16 α (65535 - i % 65535))) where
     only : (k y : ℕ) → k < symbols 2 page → fits wide s page k y ≡ true → (k ≡ i) × (y ≡ x)
     only k y inside e′ =
         let at : k ≡ i = placed k y inside e′ in (
           at,
-          sym (value-named wide wide-sound s page octets some four within another k y inside (fitting wide s page k y e′))
-              ∙ ap (valueFor wide wide-sound s page octets some four within another) at
-              ∙ ap (λ (z : ℕ). symbol 2 page i ⊕ product GF16 z (power GF16 α (65535 - i % 65535))) (sym first-off)
+          sym (value-named wide wide-sound s page (q .octets) (q .some) (q .four) within another k y inside (fitting wide s page k y e′))
+              ∙ ap (valueFor wide wide-sound s page (q .octets) (q .some) (q .four) within another) at
+              ∙ ap (λ (z : ℕ). symbol 2 page i ⊕ product GF16 z (power GF16 α (65535 - i % 65535))) (sym one-off)
               ∙ sym x-is,
         )
 
@@ -115,6 +125,6 @@ module _ (s mine : Signature) (page : List ℕ) (octets : Octets page) (some : 2
 
     pub find-one : i < m → fits wide s page i x ≡ true → put s page ≡ Repaired (changeOf (s .n) page i x)
     find-one below fit =
-        let inside : i < symbols 2 page = omega arith in
+        let inside : i < symbols 2 page = omega (arith, q .count-is) in
         put-found s page i x inside
-        (value-below wide wide-sound s page octets some four within another i x inside (fitting wide s page i x fit)) fit only
+        (value-below wide wide-sound s page (q .octets) (q .some) (q .four) within another i x inside (fitting wide s page i x fit)) fit only

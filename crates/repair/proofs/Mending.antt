@@ -21,7 +21,6 @@ use Rattle.backup.specs.Backups.{same}
 use Rattle.repair.specs.Changes.{fits, valueAt, position}
 use Rattle.repair.specs.Repairs.{changeOf, put, mended, outcomeOf, imageLeft, openRepair}
 use Rattle.repair.specs.declared.Change.{Change}
-use Rattle.repair.specs.declared.Repair.{Repair}
 use Rattle.repair.specs.declared.Repair.the-variants.{Whole, Repaired, Beyond, Refused}
 use Rattle.repair.proofs.Finding.{found-fits}
 

@@ -16,17 +16,17 @@ use Rattle.units.proofs.Refusing.{not-both}
 use Rattle.field.specs.Field.{Element, _⊕_, product, power, α, order}
 use Rattle.field.proofs.Orders.{powers-distinct, power-not-zero, power-undone, no-zero-divisors}
 use Rattle.field.proofs.Powers.{α-element, α-power, power-add}
-use Rattle.field.proofs.Products.{Formed, product-element, product-assoc, product-one}
+use Rattle.field.proofs.Products.{product-element, product-assoc, product-one}
 use Rattle.field.proofs.Reducing.{product-sum, zero-product}
 use Rattle.field.proofs.Sums.{sum-self, sum-zero, sum-undo, sum-lt, equal-of-sum}
-use Rattle.field.proofs.Tests.{Passes, formed}
+use Rattle.field.proofs.Tests.{formed}
 use Rattle.signature.specs.Kinds.{Kind}
 use Rattle.signature.specs.Objects.{Octets, symbol, symbols}
 use Rattle.signature.specs.Operations.{own}
 use Rattle.signature.specs.Signatures.{signature, handed}
 use Rattle.signature.specs.declared.Signature.{Signature}
 use Rattle.signature.proofs.EveryKind.{Sound}
-use Rattle.signature.proofs.Handing.{answered-same, answered-tells, handed-answered}
+use Rattle.signature.proofs.Handing.{answered-same, handed-answered}
 use Rattle.signature.proofs.Octets.{symbol-element}
 use Rattle.map.proofs.Fields.{halves}
 use Rattle.backup.specs.Backups.{same}

@@ -6,6 +6,7 @@ use mathlib.Core.List.{List, [], _∷_}
 use Prim.Native.Nat.{ℕ, zero, suc, _<_}
 use native.Mathlib.Omega.{arith}
 use lib.ListN.{getD}
+use Rattle.units.specs.Writing.{written}
 use Rattle.field.specs.Field.{_⊕_, digit, expanded, reduced, product, power}
 use Rattle.signature.specs.Differences.{count, differing}
 use Rattle.signature.specs.Kinds.{wide}
@@ -13,7 +14,6 @@ use Rattle.signature.specs.Objects.{Octets, lowFirst, lowBytes, symbol}
 use Rattle.signature.specs.Operations.{own}
 use Rattle.signature.specs.Signatures.{total, component}
 use Rattle.signature.proofs.EveryKind.{wide-sound}
-use Rattle.units.specs.Writing.{written}
 use Rattle.map.specs.declared.Entry.{Entry}
 use Rattle.backup.specs.Backups.{same}
 use Rattle.repair.specs.Changes.{changed, fits}

@@ -1,9 +1,9 @@
 -- A page of a backup under repair: what is whole stays, one damaged symbol is restored, more are beyond where n tells them; a repair gives the page
 -- its entry's signature and changes no byte outside one symbol.
 -- Assumes nothing.
-use mathlib.Core.Path.{_≡_, refl, sym, ap, ap₂, _∙_, subst}
+use mathlib.Core.Path.{_≡_, refl, sym, ap, ap₂, _∙_}
 use mathlib.Core.Logic.{_↔_, _⊎_, ⊎-elim, dite}
-use mathlib.Core.Bool.{Bool, true, false, cond}
+use mathlib.Core.Bool.{Bool, true, false}
 use mathlib.Core.List.{List}
 use Prim.Native.Nat.{ℕ, _+_, _-_, _*_, _%_, _≤_, _<_, min}
 use native.Mathlib.Decide.{decLt}
@@ -17,11 +17,9 @@ use Rattle.signature.specs.Differences.{differing}
 use Rattle.signature.specs.Kinds.{wide}
 use Rattle.signature.specs.Objects.{Octets, symbol, symbols}
 use Rattle.signature.specs.Operations.{own}
-use Rattle.signature.specs.declared.Signature.{Signature}
 use Rattle.signature.proofs.EveryKind.{wide-sound}
 use Rattle.map.specs.Buckets.{pageAt}
-use Rattle.map.specs.Files.{pages}
-use Rattle.map.specs.Reading.{reading, headerOf, entryAt}
+use Rattle.map.specs.Reading.{entryAt}
 use Rattle.map.specs.declared.Entry.{Entry}
 use Rattle.map.specs.declared.Header.{Header}
 use Rattle.map.proofs.Contents.{Sized}

@@ -10,11 +10,11 @@ use native.Mathlib.Decide.{decLt, ℕ-discrete}
 use native.Mathlib.Omega.{arith}
 use lib.Dec.{eqb}
 use lib.ListN.{length, getD, List·getD-eq-default}
-use borrow.Author.Tests.{eq-eqb, eqb-true, not-true, not-false}
+use borrow.Author.Tests.{eq-eqb, eqb-true, not-false}
 use Rattle.units.specs.Counts.{symbolsIn}
 use Rattle.signature.specs.Differences.{count, differing}
 use Rattle.signature.specs.Kinds.{wide}
-use Rattle.signature.specs.Objects.{Octets, lowFirst, symbol, symbols}
+use Rattle.signature.specs.Objects.{Octets, symbol, symbols}
 use Rattle.signature.specs.Operations.{own}
 use Rattle.signature.specs.declared.Signature.{Signature}
 use Rattle.signature.proofs.Counting.{Lone, count-none, count-one, count-but-one}

@@ -1,12 +1,10 @@
-use Rattle.cotelark.specs.Replies.{mended, rightedOf}
+-- `cotelark::cotelark_repair_page` meets its contract: the repair writes the image, and its answer crosses.
+-- Assumes nothing.
 use mathlib.Core.Path.{ap, _∙_}
 use borrow.Author.Needs.{needs}
+use Rattle.cotelark.specs.Replies.{mended, rightedOf}
 use Rattle.cotelark.proofs.cotelark_repair_page.Statement.{statement}
 use Rattle.cotelark.proofs.cotelark_repair_page.Tie as tie
-use Rattle.cotelark.proofs.cotelark_repair_page.Reads as reads
-use Rattle.cotelark.proofs.cotelark_repair_page.Lts as lts
-use Rattle.cotelark.proofs.replies.mended.Reads as mended-reads
-use Rattle.repair.proofs.repair_page.Reads as repair-page-reads
 
 repair-page-requires : tie.Need-repair-page-requires
 repair-page-requires c κs = search needs

@@ -1,16 +1,13 @@
-use Rattle.repair.proofs.Mending.{mended-whole, mended-else}
-use Rattle.backup.specs.Backups.{same}
-use Rattle.signature.specs.declared.Signature.{Signature}
-use mathlib.Core.Bool.{true, false}
+-- `repair::diagnose` meets its contract: a page with its entry's signature is whole, and else a change is sought.
+-- Assumes nothing.
 use mathlib.Core.Path.{_≡_, sym, ap, _∙_}
+use mathlib.Core.Bool.{true, false}
 use borrow.Author.Needs.{needs}
+use Rattle.signature.specs.declared.Signature.{Signature}
+use Rattle.backup.specs.Backups.{same}
+use Rattle.repair.proofs.Mending.{mended-whole, mended-else}
 use Rattle.repair.proofs.diagnose.Statement.{statement}
 use Rattle.repair.proofs.diagnose.Tie as tie
-use Rattle.repair.proofs.diagnose.Reads as reads
-use Rattle.repair.proofs.diagnose.Lts as lts
-use Rattle.backup.proofs.same.Reads as same-reads
-use Rattle.repair.proofs.find.Reads as find-reads
-use Rattle.signature.proofs.own.Reads as own-reads
 
 own-requires : tie.Need-own-requires
 own-requires c κs = search needs

@@ -1,28 +1,55 @@
-use Rattle.repair.proofs.Finding.{find-past, find-none, find-one}
-use Rattle.repair.specs.declared.Repair.the-variants.{Repaired}
-use Rattle.repair.specs.declared.Change.{Change}
-use Rattle.repair.specs.Repairs.{changeOf}
-use Rattle.signature.specs.Objects.{symbol}
-use Rattle.signature.specs.Kinds.{wide}
-use Rattle.field.specs.Field.{GF16, _⊕_, product, power, α}
-use borrow.Author.Tests.{not-true, not-false}
-use native.Mathlib.Omega.{arith}
-use Prim.Native.Nat.{ℕ, _-_, _%_, _≤_}
-use mathlib.Core.Bool.{true, false}
+-- `repair::find` meets its contract: the first two components name one change, and it fits or none does.
+-- Assumes nothing.
 use mathlib.Core.Path.{_≡_, sym, ap, ap₂, _∙_}
+use Prim.Native.Nat.{ℕ, _-_, _%_}
+use native.Mathlib.Omega.{arith}
 use lib.Dec.{eqb}
 use borrow.Author.Needs.{needs}
+use borrow.Author.Tests.{not-true, not-false}
+use Rattle.field.specs.Field.{GF16, _⊕_, product, power, α}
+use Rattle.signature.specs.Objects.{symbol}
+use Rattle.repair.specs.declared.Repair.the-variants.{Repaired}
+use Rattle.repair.proofs.Finding.{Sought, find-past, find-none, find-one}
 use Rattle.repair.proofs.find.Statement.{statement}
 use Rattle.repair.proofs.find.Tie as tie
-use Rattle.repair.proofs.find.Reads as reads
-use Rattle.repair.proofs.find.Lts as lts
-use Rattle.field.proofs.sum.Reads as sum-reads
-use Rattle.field.proofs.times_power.Reads as times-power-reads
-use Rattle.repair.proofs.fits.Reads as fits-reads
-use Rattle.repair.proofs.power_between.Reads as power-between-reads
-use Rattle.signature.proofs.symbol.Reads as symbol-reads
-use Rattle.signature.proofs.symbols_in.Reads as symbols-in-reads
-use Rattle.units.proofs.exponent_back.Reads as exponent-back-reads
+
+abbrev start : tie.After-power-between → tie.Start
+start c = c .before .before .before .before .before
+
+-- what was sought, and where
+sought : (c : tie.After-power-between)
+    → Sought (start c .args .s) (start c .args .own) (start c .args .page .now) (c .before .before .before .sum .result) (c .before .sum2 .result)
+    (c .before .before .symbols-in .result .count) (c .power-between .result)
+sought c =
+    let (some, four, short, signed, wrong) = start c .pre in
+    record {
+      octets = λ k. c .before .before .before .before .shared-slice-known .given k .fits;
+      some = some;
+      four = four;
+      short = short;
+      signed = signed;
+      wrong = wrong;
+      first-off = c .before .before .before .sum .ensures;
+      second-off = c .before .sum2 .ensures;
+      count-is = c .before .before .symbols-in .ensures;
+      place-is = c .power-between .ensures;
+    }
+
+abbrev between : tie.After-fits2 → tie.After-power-between
+between c = c .before .before .before .before .before .before
+
+abbrev named : tie.After-fits2 → ℕ
+named c = between c .power-between .result
+
+-- the value that the change would be to
+value : (c : tie.After-fits2)
+    → c .before .sum3 .result
+    ≡ symbol 2 (start (between c) .args .page .now) (named c) ⊕ product GF16 (between c .before .before .before .sum .result) (power GF16 α (65535 - named c % 65535))
+value c =
+    c .before .sum3 .ensures
+    ∙ ap₂ _⊕_ (c .before .before .before .before .symbol .ensures)
+    (c .before .before .times-power .ensures
+    ∙ ap (λ (k : ℕ). product GF16 (between c .before .before .before .sum .result) (power GF16 α k)) (c .before .before .before .exponent-back .ensures))
 
 sum-requires : tie.Need-sum-requires
 sum-requires c κs = search needs
@@ -37,11 +64,7 @@ power-between-requires : tie.Need-power-between-requires
 power-between-requires c κs = search needs
 
 returns : tie.Need-returns
-returns c =
-    let args : _ = c .before .before .before .before .before .before .args in
-    let (some, four, short, signed, wrong) = c .before .before .before .before .before .before .pre in
-    sym (find-past (args .s) (args .own) (args .page .now) (λ k. c .before .before .before .before .before .shared-slice-known .given k .fits) some four short signed wrong _ _ _ _
-    (c .before .before .before .before .sum .ensures) (c .before .before .sum2 .ensures) (c .before .before .before .symbols-in .ensures) (c .before .power-between .ensures) (c .if1 .taken))
+returns c = sym (find-past (sought (c .before)) (c .if1 .taken))
 
 symbol-requires : tie.Need-symbol-requires
 symbol-requires c κs = search needs
@@ -57,27 +80,18 @@ sum-requires-3 c κs = search needs
 
 fits-requires : tie.Need-fits-requires
 fits-requires c κs =
-    let (some, four, short, signed, wrong) = c .before .before .before .before .before .before .before .before .before .before .pre in
-    (some, four, short, signed, omega (arith, c .before .before .before .before .before .before .before .symbols-in .ensures))
+    let q : _ = sought (c .before .before .before .before .before) in
+    (q .some, q .four, q .short, q .signed, omega (arith, q .count-is))
 
 returns-2 : tie.Need-returns-2
-returns-2 c =
-    let args : _ = c .before .before .before .before .before .before .before .before .before .before .before .before .args in
-    let (some, four, short, signed, wrong) = c .before .before .before .before .before .before .before .before .before .before .before .before .pre in
-    let value : c .before .before .sum3 .result ≡ symbol 2 (args .page .now) (c .before .before .before .before .before .before .before .power-between .result) ⊕ product GF16 (c .before .before .before .before .before .before .before .before .before .before .sum .result) (power GF16 α (65535 - c .before .before .before .before .before .before .before .power-between .result % 65535)) =
-    c .before .before .sum3 .ensures ∙ ap₂ _⊕_ (c .before .before .before .before .before .symbol .ensures) (c .before .before .before .times-power .ensures ∙ ap (λ (k : ℕ). product GF16 (c .before .before .before .before .before .before .before .before .before .before .sum .result) (power GF16 α k)) (c .before .before .before .before .exponent-back .ensures)) in
-    sym (find-none (args .s) (args .own) (args .page .now) (λ k. c .before .before .before .before .before .before .before .before .before .before .before .shared-slice-known .given k .fits) some four short signed wrong _ _ _ _
-    (c .before .before .before .before .before .before .before .before .before .before .sum .ensures) (c .before .before .before .before .before .before .before .before .sum2 .ensures) (c .before .before .before .before .before .before .before .before .before .symbols-in .ensures) (c .before .before .before .before .before .before .before .power-between .ensures) _ value (sym (c .before .fits2 .ensures) ∙ not-true _ (c .if2 .taken)))
+returns-2 c = sym (find-none (sought (between (c .before))) _ (value (c .before)) (sym (c .before .fits2 .ensures) ∙ not-true _ (c .if2 .taken)))
 
 returns-3 : tie.Need-returns-3
 returns-3 c =
-    let args : _ = c .before .before .before .before .before .before .before .before .before .before .before .before .before .args in
-    let (some, four, short, signed, wrong) = c .before .before .before .before .before .before .before .before .before .before .before .before .before .pre in
-    let value : c .before .before .before .sum3 .result ≡ symbol 2 (args .page .now) (c .before .before .before .before .before .before .before .before .power-between .result) ⊕ product GF16 (c .before .before .before .before .before .before .before .before .before .before .before .sum .result) (power GF16 α (65535 - c .before .before .before .before .before .before .before .before .power-between .result % 65535)) =
-    c .before .before .before .sum3 .ensures ∙ ap₂ _⊕_ (c .before .before .before .before .before .before .symbol .ensures) (c .before .before .before .before .times-power .ensures ∙ ap (λ (k : ℕ). product GF16 (c .before .before .before .before .before .before .before .before .before .before .before .sum .result) (power GF16 α k)) (c .before .before .before .before .before .exponent-back .ensures)) in
-    ap (λ (old : ℕ). Repaired (record { position = record { count = c .before .before .before .before .before .before .before .before .power-between .result }; old = old; new = c .before .before .before .sum3 .result; marked = eqb (args .s .n) 2 })) (c .before .before .before .before .before .before .symbol .ensures)
-    ∙ sym (find-one (args .s) (args .own) (args .page .now) (λ k. c .before .before .before .before .before .before .before .before .before .before .before .before .shared-slice-known .given k .fits) some four short signed wrong _ _ _ _
-    (c .before .before .before .before .before .before .before .before .before .before .before .sum .ensures) (c .before .before .before .before .before .before .before .before .before .sum2 .ensures) (c .before .before .before .before .before .before .before .before .before .before .symbols-in .ensures) (c .before .before .before .before .before .before .before .before .power-between .ensures) _ value (omega arith) (sym (c .before .before .fits2 .ensures) ∙ not-false _ (c .before .if2 .left)))
+    let at : _ = c .before .before in
+    let old : _ = at .before .before .before .before .symbol .ensures in
+    ap (λ (x : ℕ). Repaired (record { position = record { count = named at }; old = x; new = at .before .sum3 .result; marked = eqb (start (between at) .args .s .n) 2 })) old
+    ∙ sym (find-one (sought (between at)) _ (value at) (omega arith) (sym (at .fits2 .ensures) ∙ not-false _ (c .before .if2 .left)))
 
 pub find-spec : {M : Type 1} → statement M
 find-spec =

@@ -1,22 +1,36 @@
-use Rattle.repair.proofs.Naming.{not-held}
-use Rattle.repair.proofs.Checking.{checked, never-refused}
-use Rattle.repair.specs.Changes.{changed}
-use Rattle.signature.specs.Objects.{lowBytes, symbol}
-use Rattle.signature.specs.Kinds.{wide}
-use borrow.Author.Tests.{not-true, not-false}
-use lib.Dec.{eqb}
-use mathlib.Core.Bool.{true}
-use mathlib.Core.Path.{_≡_, sym, ap, _∙_}
+-- `repair::fits` meets its contract: what does not stay does not fit, and else the edited signature decides.
+-- Assumes nothing.
+use mathlib.Core.Path.{sym, ap, _∙_}
 use borrow.Author.Needs.{needs}
+use borrow.Author.Tests.{not-true, not-false}
+use Rattle.signature.specs.Kinds.{wide}
+use Rattle.signature.specs.Objects.{lowBytes, symbol}
+use Rattle.repair.proofs.Checking.{Edits, checked, never-refused}
+use Rattle.repair.proofs.Naming.{not-held}
 use Rattle.repair.proofs.fits.Statement.{statement}
 use Rattle.repair.proofs.fits.Tie as tie
-use Rattle.repair.proofs.fits.Reads as reads
-use Rattle.repair.proofs.fits.Lts as lts
-use Rattle.backup.proofs.same.Reads as same-reads
-use Rattle.repair.proofs.low_bytes.Reads as low-bytes-reads
-use Rattle.repair.proofs.stays.Reads as stays-reads
-use Rattle.signature.proofs.edit.Reads as edit-reads
-use Rattle.signature.proofs.symbol.Reads as symbol-reads
+
+abbrev start : tie.After-edit → tie.Start
+start c = c .before .before .before .before .before .before .before .before .before
+
+-- what was edited
+edits : (c : tie.After-edit)
+    → Edits (start c .args .s) (start c .args .own) (start c .args .page .now) (start c .args .i .count) (start c .args .x)
+    (c .before .before .before .before .low-bytes .result) (c .before .before .before .low-bytes2 .result) (c .edit .result)
+edits c =
+    let (some, four, short, signed, inside) = start c .pre in
+    record {
+      octets = λ k. c .before .before .before .before .before .before .before .before .shared-slice-known .given k .fits;
+      some = some;
+      four = four;
+      short = short;
+      signed = signed;
+      inside = inside;
+      stays = sym (c .before .before .before .before .before .before .before .stays .ensures) ∙ not-false _ (c .before .before .before .before .before .before .if1 .left);
+      old-is = c .before .before .before .before .low-bytes .ensures ∙ ap (lowBytes 2) (c .before .before .before .before .before .symbol .ensures);
+      new-is = c .before .before .before .low-bytes2 .ensures;
+      edited = c .edit .ensures;
+    }
 
 stays-requires : tie.Need-stays-requires
 stays-requires c κs = search needs
@@ -51,25 +65,13 @@ enum-told : tie.Need-enum-told
 enum-told c = search needs
 
 returns-2 : tie.Need-returns-2
-returns-2 c =
-    let args : _ = c .before .before .before .before .before .before .before .before .before .before .before .args in
-    let (some, four, short, signed, inside) = c .before .before .before .before .before .before .before .before .before .before .before .pre in
-    let stays : eqb (symbol 2 (changed wide (args .page .now) (args .i .count) (args .x)) (args .i .count)) (args .x) ≡ true = sym (c .before .before .before .before .before .before .before .before .before .stays .ensures) ∙ not-false _ (c .before .before .before .before .before .before .before .before .if1 .left) in
-    absurd
-    (never-refused (args .s) (args .own) (args .page .now) (args .i .count) (args .x) (λ k. c .before .before .before .before .before .before .before .before .before .before .shared-slice-known .given k .fits) some four short signed inside stays
-    _ _ (c .before .before .before .before .before .before .low-bytes .ensures ∙ ap (lowBytes 2) (c .before .before .before .before .before .before .before .symbol .ensures)) (c .before .before .before .before .before .low-bytes2 .ensures) (c .before .before .edit .result) (c .before .before .edit .ensures) _ (c .enum-told .given .1))
+returns-2 c = absurd (never-refused (edits (c .before .before)) _ (c .enum-told .given .1))
 
 same-requires : tie.Need-same-requires
 same-requires c κs = search needs
 
 returns-3 : tie.Need-returns-3
-returns-3 c =
-    let args : _ = c .before .before .before .before .before .before .before .before .before .before .before .before .before .args in
-    let (some, four, short, signed, inside) = c .before .before .before .before .before .before .before .before .before .before .before .before .before .pre in
-    let stays : eqb (symbol 2 (changed wide (args .page .now) (args .i .count) (args .x)) (args .i .count)) (args .x) ≡ true = sym (c .before .before .before .before .before .before .before .before .before .before .before .stays .ensures) ∙ not-false _ (c .before .before .before .before .before .before .before .before .before .before .if1 .left) in
-    c .same .ensures
-    ∙ checked (args .s) (args .own) (args .page .now) (args .i .count) (args .x) (λ k. c .before .before .before .before .before .before .before .before .before .before .before .before .shared-slice-known .given k .fits) some four short signed inside stays
-    _ _ (c .before .before .before .before .before .before .before .before .low-bytes .ensures ∙ ap (lowBytes 2) (c .before .before .before .before .before .before .before .before .before .symbol .ensures)) (c .before .before .before .before .before .before .before .low-bytes2 .ensures) (c .before .before .before .before .edit .result) (c .before .before .before .before .edit .ensures) _ (c .before .before .edited .given .1)
+returns-3 c = c .same .ensures ∙ checked (edits (c .before .before .before .before)) _ (c .before .before .edited .given .1)
 
 pub fits-spec : {M : Type 1} → statement M
 fits-spec =

@@ -1,7 +1,7 @@
 -- `repair::power_between` meets its contract. The invariant: x is a times the power of α at i, and the first power of those left is the first of all.
 -- Assumes nothing.
-use mathlib.Core.Bool.{Bool, true, false}
 use mathlib.Core.Path.{_≡_, refl, sym, ap, _∙_}
+use mathlib.Core.Bool.{Bool, true, false}
 use Prim.Native.Nat.{ℕ, suc, _+_, _-_, _<_}
 use native.Mathlib.Nat.{zero-add}
 use native.Mathlib.Numerals.{add-one}
@@ -11,9 +11,9 @@ use borrow.Author.Tests.{eq-eqb, ne-eqb}
 use Rattle.units.specs.Naming.{firstNamed}
 use Rattle.units.proofs.First.{first-none, first-here, first-later}
 use Rattle.field.specs.Field.{GF16, product, power, doubled, α}
-use Rattle.field.proofs.Products.{product-one, product-doubled}
-use Rattle.field.proofs.Powers.{power-zero, power-doubled}
 use Rattle.field.proofs.Instances.{GF16-formed}
+use Rattle.field.proofs.Powers.{power-zero, power-doubled}
+use Rattle.field.proofs.Products.{product-one, product-doubled}
 use Rattle.repair.proofs.power_between.Statement.{statement}
 use Rattle.repair.proofs.power_between.Tie as tie
 

@@ -1,17 +1,15 @@
-use Rattle.repair.proofs.Changed.{put-both, put-low}
-use Rattle.signature.specs.Objects.{lowBytes}
-use Rattle.units.specs.Writing.{partPut}
-use lib.ListN.{length, set}
-use native.Mathlib.Omega.{arith}
-use Prim.Native.Nat.{ℕ, _-_, _*_, _%_, _≤_, _<_}
+-- `repair::put_symbol` meets its contract: both bytes, or the one that the page has.
+-- Assumes nothing.
 use mathlib.Core.Path.{_≡_, ap, _∙_}
+use Prim.Native.Nat.{ℕ, _-_, _*_, _%_, _≤_, _<_}
+use native.Mathlib.Omega.{arith}
+use lib.ListN.{length, set}
 use borrow.Author.Needs.{needs}
+use Rattle.units.specs.Writing.{partPut}
+use Rattle.signature.specs.Objects.{lowBytes}
+use Rattle.repair.proofs.Changed.{put-both, put-low}
 use Rattle.repair.proofs.put_symbol.Statement.{statement}
 use Rattle.repair.proofs.put_symbol.Tie as tie
-use Rattle.repair.proofs.put_symbol.Reads as reads
-use Rattle.repair.proofs.put_symbol.Lts as lts
-use Rattle.signature.proofs.put_two_bytes.Reads as put-two-bytes-reads
-use Rattle.units.proofs.bytes_of.Reads as bytes-of-reads
 
 bytes-of-requires : tie.Need-bytes-of-requires
 bytes-of-requires c κs = search needs
@@ -28,9 +26,11 @@ same-length c = search needs
 returns : tie.Need-returns
 returns c =
     let args : _ = c .before .before .before .before .before .before .before .args in
+    let inside : _ = c .before .before .before .before .before .before .before .pre in
     let at : c .before .before .before .before .before .bytes-of .result .count ≡ args .i .count * 2 = omega (arith, c .before .before .before .before .before .bytes-of .ensures) in
     let room : 1 < length (args .page .now) - args .i .count * 2 = omega arith in
-    c .before .before .put-two-bytes .ensures ∙ ap (partPut (lowBytes 2 (args .x)) (args .page .now)) at ∙ put-both (args .page .now) (args .i .count) (args .x) (c .before .before .before .before .before .before .before .pre) room
+    c .before .before .put-two-bytes .ensures ∙ ap (partPut (lowBytes 2 (args .x)) (args .page .now)) at
+    ∙ put-both (args .page .now) (args .i .count) (args .x) inside room
 
 cast-page : tie.Need-cast-page
 cast-page c = search needs

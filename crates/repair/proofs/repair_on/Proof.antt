@@ -1,26 +1,34 @@
-use Rattle.repair.proofs.Lending.{lent-inside, lent-below, lent-four, lent-page, lent-short, put-back}
-use Rattle.repair.proofs.Mending.{open-past, open-thin, open-mends}
-use Rattle.repair.specs.declared.Repair.{Repair}
-use Rattle.repair.specs.Repairs.{mended, pageLeft, outcomeOf, imageLeft}
-use Rattle.map.specs.declared.Entry.{Entry}
-use Rattle.map.specs.Reading.{entryAt}
-use Rattle.map.specs.Files.{pages}
-use Rattle.map.specs.Buckets.{pageAt}
-use Rattle.units.specs.Writing.{written}
-use native.Mathlib.Omega.{arith}
-use Prim.Native.Nat.{ℕ, _*_, _≤_, _<_}
-use mathlib.Core.List.{List}
+-- `repair::repair_on` meets its contract: after its two tests the page is lent, mended, and goes back where it stood.
+-- Assumes nothing.
 use mathlib.Core.Path.{_≡_, refl, sym, ap, ap₂, _∙_}
+use mathlib.Core.List.{List}
+use Prim.Native.Nat.{ℕ, _*_, _≤_, _<_}
+use native.Mathlib.Omega.{arith}
 use borrow.Author.Needs.{needs}
+use Rattle.units.specs.Writing.{written}
+use Rattle.map.specs.Buckets.{pageAt}
+use Rattle.map.specs.Files.{pages}
+use Rattle.map.specs.Reading.{entryAt}
+use Rattle.map.specs.declared.Entry.{Entry}
+use Rattle.repair.specs.Repairs.{mended, pageLeft, outcomeOf, imageLeft}
+use Rattle.repair.specs.declared.Repair.{Repair}
+use Rattle.repair.proofs.Lending.{Lent, lent-inside, lent-below, lent-four, lent-page, lent-short, put-back}
+use Rattle.repair.proofs.Mending.{open-past, open-thin, open-mends}
 use Rattle.repair.proofs.repair_on.Statement.{statement}
 use Rattle.repair.proofs.repair_on.Tie as tie
-use Rattle.repair.proofs.repair_on.Reads as reads
-use Rattle.repair.proofs.repair_on.Lts as lts
-use Rattle.map.proofs.entry_at.Reads as entry-at-reads
-use Rattle.map.proofs.page_at.Reads as page-at-reads
-use Rattle.map.proofs.pages.Reads as pages-reads
-use Rattle.repair.proofs.mend.Reads as mend-reads
-use Rattle.repair.proofs.refused.Reads as refused-reads
+
+abbrev start : tie.After-page-at → tie.Start
+start c = c .before .before .before .before .before .before .before .before .before .before
+
+-- the page that is lent
+lent : (c : tie.After-page-at) → Lent (start c .args .h) (start c .args .image .now) (start c .args .map .now) (start c .args .k) (c .page-at .result .now)
+lent c =
+    record {
+      holds = start c .pre .0;
+      long = start c .pre .1;
+      inside = omega (arith, c .before .before .before .before .before .before .before .pages .ensures, c .before .before .before .before .before .before .if1 .left);
+      is = c .page-at .ensures;
+    }
 
 pages-requires : tie.Need-pages-requires
 pages-requires c κs = search needs
@@ -48,18 +56,16 @@ entry-at-requires c κs = search needs
 
 mul-start : tie.Need-mul-start
 mul-start c =
-    let args : _ = c .before .before .before .before .before .before .before .before .args in
-    let inside : args .k < pages (args .h) = omega (arith, c .before .before .before .before .before .pages .ensures) in
-    omega (arith, lent-below (args .h) (args .image .now) (args .map .now) (args .k) (c .before .before .before .before .before .before .before .before .pre .0) (c .before .before .before .before .before .before .before .before .pre .1) inside _ refl)
+    let at : _ = c .before .before .before .before .before .before .before .before in
+    let q : Lent (at .args .h) (at .args .image .now) (at .args .map .now) (at .args .k) _ =
+    record { holds = at .pre .0; long = at .pre .1; inside = omega (arith, c .before .before .before .before .before .pages .ensures); is = refl } in
+    omega (arith, lent-below q)
 
 page-at-requires : tie.Need-page-at-requires
 page-at-requires c κs = search needs
 
 add-end : tie.Need-add-end
-add-end c =
-    let args : _ = c .before .before .before .before .before .before .before .before .before .before .args in
-    let inside : args .k < pages (args .h) = omega (arith, c .before .before .before .before .before .before .before .pages .ensures) in
-    omega (arith, lent-below (args .h) (args .image .now) (args .map .now) (args .k) (c .before .before .before .before .before .before .before .before .before .before .pre .0) (c .before .before .before .before .before .before .before .before .before .before .pre .1) inside _ (c .page-at .ensures))
+add-end c = omega (arith, lent-below (lent c))
 
 sub-mend : tie.Need-sub-mend
 sub-mend c = search needs
@@ -68,19 +74,14 @@ part-mend-start : tie.Need-part-mend-start
 part-mend-start c = search needs
 
 part-mend-end : tie.Need-part-mend-end
-part-mend-end c =
-    let args : _ = c .before .before .before .before .before .before .before .before .before .before .args in
-    let inside : args .k < pages (args .h) = omega (arith, c .before .before .before .before .before .before .before .pages .ensures) in
-    lent-inside (args .h) (args .image .now) (args .map .now) (args .k) (c .before .before .before .before .before .before .before .before .before .before .pre .0) (c .before .before .before .before .before .before .before .before .before .before .pre .1) inside _ (c .page-at .ensures)
+part-mend-end c = lent-inside (lent c)
 
 mend-requires : tie.Need-mend-requires
 unfolding entryAt
 mend-requires c κs =
-    let args : _ = c .before .before .before .before .before .before .before .before .before .before .before .args in
-    let inside : args .k < pages (args .h) = omega (arith, c .before .before .before .before .before .before .before .before .pages .ensures) in
-    let n : c .before .before .before .before .entry-at .result .signature .n ≡ args .h .n = ap (λ (e : Entry). e .signature .n) (c .before .before .before .before .entry-at .ensures) in
-    let four : args .h .n ≤ 4 = lent-four (args .h) (args .image .now) (args .map .now) (args .k) (c .before .before .before .before .before .before .before .before .before .before .before .pre .0) (c .before .before .before .before .before .before .before .before .before .before .before .pre .1) inside _ (c .before .page-at .ensures) in
-    (omega arith, omega arith, lent-short (args .h) (args .image .now) (args .map .now) (args .k) (c .before .before .before .before .before .before .before .before .before .before .before .pre .0) (c .before .before .before .before .before .before .before .before .before .before .before .pre .1) inside _ (c .before .page-at .ensures))
+    let q : _ = lent (c .before) in
+    let n : _ = ap (λ (e : Entry). e .signature .n) (c .before .before .before .before .entry-at .ensures) in
+    (omega (arith, n, c .before .before .before .before .before .if2 .left), omega (arith, n, lent-four q), lent-short q)
 
 same-length : tie.Need-same-length
 same-length c = search needs
@@ -88,19 +89,18 @@ same-length c = search needs
 returns-3 : tie.Need-returns-3
 unfolding imageLeft
 returns-3 c =
-    let args : _ = c .before .before .before .before .before .before .before .before .before .before .before .before .before .before .args in
+    let at : _ = c .before .before .before .before in
+    let args : _ = start at .args in
     let image : List ℕ = args .image .now in
-    let start : ℕ = args .k * args .h .page .count in
-    let inside : args .k < pages (args .h) = omega (arith, c .before .before .before .before .before .before .before .before .before .before .before .pages .ensures) in
-    let two : 2 ≤ args .h .n = omega arith in
-    let part : _ = lent-page (args .h) image (args .map .now) (args .k) (c .before .before .before .before .before .before .before .before .before .before .before .before .before .before .pre .0) (c .before .before .before .before .before .before .before .before .before .before .before .before .before .before .pre .1) inside _ (c .before .before .before .before .page-at .ensures) in
-    let answer : c .before .before .mend .result ≡ mended (entryAt (args .h .n) (args .map .now) (args .k)) (pageAt (args .h .page .count) image (args .k)) =
-    c .before .before .mend .ensures .0 ∙ ap₂ mended (c .before .before .before .before .before .before .before .entry-at .ensures) part in
-    ap (outcomeOf (c .before .before .mend .result))
-    (put-back (args .h) image (args .map .now) (args .k) (c .before .before .before .before .before .before .before .before .before .before .before .before .before .before .pre .0) (c .before .before .before .before .before .before .before .before .before .before .before .before .before .before .pre .1) inside _ (c .before .before .before .before .page-at .ensures) (c .before .before .mend .last .1 .0) (c .before .before .mend .kept .1 .0)
-    ∙ ap (written image start) (c .before .before .mend .ensures .1 ∙ ap (pageLeft (c .before .before .mend .result)) part))
+    let mend : _ = c .before .before .mend in
+    let q : _ = lent at in
+    let answer : mend .result ≡ mended (entryAt (args .h .n) (args .map .now) (args .k)) (pageAt (args .h .page .count) image (args .k)) =
+    mend .ensures .0 ∙ ap₂ mended (at .before .before .before .entry-at .ensures) (lent-page q) in
+    ap (outcomeOf (mend .result))
+    (put-back q (mend .last .1 .0) (mend .kept .1 .0)
+    ∙ ap (written image (args .k * args .h .page .count)) (mend .ensures .1 ∙ ap (pageLeft (mend .result)) (lent-page q)))
     ∙ ap (λ (r : Repair). outcomeOf r (imageLeft (args .h) r image (args .k))) answer
-    ∙ sym (open-mends (args .h) image (args .map .now) (args .k) inside two)
+    ∙ sym (open-mends (args .h) image (args .map .now) (args .k) (q .inside) (omega (arith, at .before .before .before .before .if2 .left)))
 
 pub repair-on-spec : {M : Type 1} → statement M
 repair-on-spec =

@@ -1,14 +1,12 @@
-use Rattle.repair.specs.Repairs.{pageTests, unless, openRepair, repairing}
-use Rattle.backup.proofs.Opened.{refused-as, opened-as, Usable, open-usable}
-use Rattle.map.specs.declared.Header.{Header}
+-- `repair::repair_page` meets its contract: what opening refuses the repair refuses, and else the page's tests decide.
+-- Assumes nothing.
 use mathlib.Core.Path.{sym, _∙_}
 use borrow.Author.Needs.{needs}
+use Rattle.map.specs.declared.Header.{Header}
+use Rattle.backup.proofs.Opened.{refused-as, opened-as, Usable, open-usable}
+use Rattle.repair.specs.Repairs.{pageTests, unless, openRepair, repairing}
 use Rattle.repair.proofs.repair_page.Statement.{statement}
 use Rattle.repair.proofs.repair_page.Tie as tie
-use Rattle.repair.proofs.repair_page.Reads as reads
-use Rattle.repair.proofs.repair_page.Lts as lts
-use Rattle.backup.proofs.open.Reads as open-reads
-use Rattle.repair.proofs.repair_on.Reads as repair-on-reads
 
 open-requires : tie.Need-open-requires
 open-requires c κs = search needs
@@ -28,7 +26,8 @@ returns : tie.Need-returns
 unfolding repairing
 returns c =
     let args : _ = c .before .before .before .before .before .before .args in
-    sym (refused-as (λ v (g : Header). unless v g (args .image .now) (args .map .now) (args .k)) (λ g. pageTests g (args .k)) _ _ _ _ (sym (c .before .before .before .«open» .ensures) ∙ c .before .opening .given .1))
+    sym (refused-as (λ v (g : Header). unless v g (args .image .now) (args .map .now) (args .k)) (λ g. pageTests g (args .k)) _ _ _ _
+    (sym (c .before .before .before .«open» .ensures) ∙ c .before .opening .given .1))
 
 same-length : tie.Need-same-length
 same-length c = search needs
@@ -38,7 +37,8 @@ unfolding repairing openRepair
 returns-2 c =
     let args : _ = c .before .before .before .before .before .before .before .before .before .before .args in
     c .before .before .repair-on .ensures
-    ∙ sym (opened-as (λ v (g : Header). unless v g (args .image .now) (args .map .now) (args .k)) (λ g. pageTests g (args .k)) _ _ _ _ (sym (c .before .before .before .before .before .before .before .«open» .ensures) ∙ c .before .before .before .before .before .opening2 .given .1))
+    ∙ sym (opened-as (λ v (g : Header). unless v g (args .image .now) (args .map .now) (args .k)) (λ g. pageTests g (args .k)) _ _ _ _
+    (sym (c .before .before .before .before .before .before .before .«open» .ensures) ∙ c .before .before .before .before .before .opening2 .given .1))
 
 pub repair-page-spec : {M : Type 1} → statement M
 repair-page-spec =

@@ -1,18 +1,17 @@
-use Rattle.repair.proofs.Changed.{both-bytes, low-byte}
-use borrow.Author.Tests.{eq-eqb, ne-eqb, lt-ltb, le-ltb}
-use lib.ListN.{length}
-use lib.Dec.{eqb, ltb}
-use native.Mathlib.Omega.{arith}
-use native.Mathlib.Decide.{decLt}
-use Prim.Native.Nat.{ℕ, _-_, _*_, _%_, _≤_, _<_}
-use mathlib.Core.Logic.{dite}
+-- `repair::stays` meets its contract: a page that has both bytes of the symbol holds any value there, and else the low byte alone.
+-- Assumes nothing.
 use mathlib.Core.Path.{_≡_, sym, ap, _∙_}
+use mathlib.Core.Logic.{dite}
+use Prim.Native.Nat.{ℕ, _-_, _*_, _%_, _≤_, _<_}
+use native.Mathlib.Decide.{decLt}
+use native.Mathlib.Omega.{arith}
+use lib.Dec.{eqb, ltb}
+use lib.ListN.{length}
 use borrow.Author.Needs.{needs}
+use borrow.Author.Tests.{eq-eqb, ne-eqb, lt-ltb, le-ltb}
+use Rattle.repair.proofs.Changed.{both-bytes, low-byte}
 use Rattle.repair.proofs.stays.Statement.{statement}
 use Rattle.repair.proofs.stays.Tie as tie
-use Rattle.repair.proofs.stays.Reads as reads
-use Rattle.repair.proofs.stays.Lts as lts
-use Rattle.units.proofs.bytes_of.Reads as bytes-of-reads
 
 -- what is its low byte alone
 low-only : (x : ℕ) → ltb x 256 ≡ eqb (x % 256) x

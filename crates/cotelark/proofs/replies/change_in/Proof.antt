@@ -1,11 +1,11 @@
-use Rattle.cotelark.specs.Replies.{changeIn, noChange}
-use Rattle.repair.proofs.Tags.{without-change}
+-- `cotelark::replies::change_in` meets its contract: the change that was made, and zeros where there was none.
+-- Assumes nothing.
 use mathlib.Core.Path.{refl, sym, ap}
 use borrow.Author.Needs.{needs}
+use Rattle.repair.proofs.Tags.{without-change}
+use Rattle.cotelark.specs.Replies.{changeIn, noChange}
 use Rattle.cotelark.proofs.replies.change_in.Statement.{statement}
 use Rattle.cotelark.proofs.replies.change_in.Tie as tie
-use Rattle.cotelark.proofs.replies.change_in.Reads as reads
-use Rattle.cotelark.proofs.replies.change_in.Lts as lts
 
 enum-known-repair : tie.Need-enum-known-repair
 enum-known-repair c = search needs

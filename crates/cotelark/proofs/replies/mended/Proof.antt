@@ -1,18 +1,14 @@
-use Rattle.cotelark.specs.Replies.{Reply, changeIn, mendedOf, mendedBy, mended, WHOLE, REPAIRED, BEYOND, REFUSED}
-use Rattle.repair.specs.declared.Repair.{Repair}
-use Rattle.repair.specs.declared.Change.{Change}
-use Prim.Native.Nat.{ℕ}
-use mathlib.Core.Bool.{cond}
+-- `cotelark::replies::mended` meets its contract: case by case.
+-- Assumes nothing.
 use mathlib.Core.Path.{_≡_, refl, sym, ap, _∙_}
+use mathlib.Core.Bool.{cond}
+use Prim.Native.Nat.{ℕ}
 use borrow.Author.Needs.{needs}
+use Rattle.repair.specs.declared.Change.{Change}
+use Rattle.repair.specs.declared.Repair.{Repair}
+use Rattle.cotelark.specs.Replies.{Reply, changeIn, mendedOf, mendedBy, mended, WHOLE, REPAIRED, BEYOND, REFUSED}
 use Rattle.cotelark.proofs.replies.mended.Statement.{statement}
 use Rattle.cotelark.proofs.replies.mended.Tie as tie
-use Rattle.cotelark.proofs.replies.mended.Reads as reads
-use Rattle.cotelark.proofs.replies.mended.Lts as lts
-use Rattle.cotelark.proofs.replies.change_in.Reads as change-in-reads
-use Rattle.cotelark.proofs.replies.done.Reads as done-reads
-use Rattle.cotelark.proofs.replies.one_if.Reads as one-if-reads
-use Rattle.cotelark.proofs.replies.refused.Reads as refused-reads
 
 -- the change as it was read from the answer, beside the answer's own reply and number
 crosses : (repair : Repair) (c : Change) → c ≡ changeIn repair → (marked : ℕ) → marked ≡ cond (c .marked) 1 0 → (reply due : Reply) (number : ℕ) → reply ≡ due
@@ -56,16 +52,24 @@ refused-requires : tie.Need-refused-requires
 refused-requires c κs = search needs
 
 returns : tie.Need-returns
-returns c = crosses _ _ (c .before .before .before .before .before .change-in .ensures) _ (c .before .before .before .before .one-if .ensures) _ _ WHOLE (c .done .ensures) _ (c .before .before .enum-told .given .1) refl
+returns c =
+    let at : _ = c .before .before .before .before in
+    crosses _ _ (at .before .change-in .ensures) _ (at .one-if .ensures) _ _ WHOLE (c .done .ensures) _ (c .before .before .enum-told .given .1) refl
 
 returns-2 : tie.Need-returns-2
-returns-2 c = crosses _ _ (c .before .before .before .before .before .change-in .ensures) _ (c .before .before .before .before .one-if .ensures) _ _ REPAIRED (c .done2 .ensures) _ (c .before .before .enum-told2 .given .1) refl
+returns-2 c =
+    let at : _ = c .before .before .before .before in
+    crosses _ _ (at .before .change-in .ensures) _ (at .one-if .ensures) _ _ REPAIRED (c .done2 .ensures) _ (c .before .before .enum-told2 .given .1) refl
 
 returns-3 : tie.Need-returns-3
-returns-3 c = crosses _ _ (c .before .before .before .before .before .change-in .ensures) _ (c .before .before .before .before .one-if .ensures) _ _ BEYOND (c .done3 .ensures) _ (c .before .before .enum-told3 .given .1) refl
+returns-3 c =
+    let at : _ = c .before .before .before .before in
+    crosses _ _ (at .before .change-in .ensures) _ (at .one-if .ensures) _ _ BEYOND (c .done3 .ensures) _ (c .before .before .enum-told3 .given .1) refl
 
 returns-4 : tie.Need-returns-4
-returns-4 c = crosses _ _ (c .before .before .before .before .before .before .change-in .ensures) _ (c .before .before .before .before .before .one-if .ensures) _ _ REFUSED (c .refused .ensures) _ (c .before .before .before .repair .given .1) refl
+returns-4 c =
+    let at : _ = c .before .before .before .before .before in
+    crosses _ _ (at .before .change-in .ensures) _ (at .one-if .ensures) _ _ REFUSED (c .refused .ensures) _ (c .before .before .before .repair .given .1) refl
 
 pub mended-spec : {M : Type 1} → statement M
 mended-spec =
