@@ -8,8 +8,8 @@ use Prim.Native.Nat.{ℕ, suc, _+_, _-_, _*_, _/_, _%_, _^_, _≤_, _<_, min}
 use native.Mathlib.Nat.{one-mul, zero-mul, suc-mul, mul-le-mul-right}
 use native.Mathlib.Decide.{decLt}
 use native.Mathlib.Omega.{arith}
-use lib.ListN.{length, getD, take, drop, set, length-take, List·getD-eq-default}
-use lib.Seq.{take-all, getD-take, getD-drop}
+use lib.ListN.{length, getD, take, set, length-take, List·getD-eq-default}
+use lib.Seq.{take-all, getD-take}
 use Rattle.units.specs.Writing.{written, partPut}
 use Rattle.units.proofs.Pieces.{piece-begins}
 use Rattle.units.proofs.Writing.{written-length, written-one, written-below, written-at, written-above}
@@ -24,20 +24,9 @@ use Rattle.signature.proofs.Components.{component-one}
 use Rattle.signature.proofs.Editing.{edit-law}
 use Rattle.signature.proofs.EveryKind.{Sound, wide-sound}
 use Rattle.signature.proofs.Numbers.{low-bytes-length, written-read, two-bytes, two-bytes-put, bytes-read}
-use Rattle.signature.proofs.Octets.{low-first-lt, low-bytes-octets, append-octets}
+use Rattle.signature.proofs.Octets.{low-first-lt, append-octets, take-octets, drop-octets, low-bytes-octets}
 use Rattle.signature.proofs.Parts.{symbols-whole, symbol-same, byte-inside}
 use Rattle.repair.specs.Changes.{changed}
-
-take-octets : (n : ℕ) (bytes : List ℕ) → Octets bytes → Octets (take n bytes)
-take-octets n bytes octets i =
-    dite (decLt i n)
-    (λ (inside : i < n). rw (getD-take n bytes i 0 inside) (octets i))
-    (λ past.
-    let short : length (take n bytes) ≤ i = omega (arith, length-take n bytes) in
-    rw (List·getD-eq-default (take n bytes) 0 short) (omega arith))
-
-drop-octets : (n : ℕ) (bytes : List ℕ) → Octets bytes → Octets (drop n bytes)
-drop-octets n bytes octets i = rw (getD-drop n bytes i 0) (octets (n + i))
 
 module _ (K : Kind) (sound : Sound K) where
   -- one symbol is its own signature

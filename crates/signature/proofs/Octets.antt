@@ -5,10 +5,10 @@ use mathlib.Core.Logic.{dite}
 use mathlib.Core.List.{List, [], _∷_, _++_}
 use Prim.Native.Nat.{ℕ, zero, suc, _+_, _-_, _*_, _/_, _%_, _^_, _≤_, _<_}
 use native.Mathlib.Nat.{pow-suc, mul-comm, zero-lt-suc, lt-of-lt-of-le, mul-le-mul-left, le-refl}
-use native.Mathlib.Omega.{arith}
 use native.Mathlib.Decide.{decLt}
-use lib.ListN.{length, getD, List·getD-append}
-use lib.Seq.{getD-append-add}
+use native.Mathlib.Omega.{arith}
+use lib.ListN.{length, getD, take, drop, length-take, List·getD-append, List·getD-eq-default}
+use lib.Seq.{getD-append-add, getD-take, getD-drop}
 use Rattle.field.specs.Field.{Field, Element, _⊕_, GF16}
 use Rattle.field.proofs.Sums.{sum-self, sum-lt}
 use Rattle.signature.specs.Objects.{Octets, lowFirst, lowBytes, symbol}
@@ -37,6 +37,17 @@ append-octets xs ys one other i =
     (λ late.
     let place : i ≡ length xs + (i - length xs) = omega arith in
     subst (λ (x : ℕ). x < 256) (sym (ap (λ (k : ℕ). getD (xs ++ ys) k 0) place ∙ getD-append-add xs ys (i - length xs) 0)) (other (i - length xs)))
+
+pub take-octets : (n : ℕ) (bytes : List ℕ) → Octets bytes → Octets (take n bytes)
+take-octets n bytes octets i =
+    dite (decLt i n)
+    (λ (inside : i < n). rw (getD-take n bytes i 0 inside) (octets i))
+    (λ past.
+    let short : length (take n bytes) ≤ i = omega (arith, length-take n bytes) in
+    rw (List·getD-eq-default (take n bytes) 0 short) (omega arith))
+
+pub drop-octets : (n : ℕ) (bytes : List ℕ) → Octets bytes → Octets (drop n bytes)
+drop-octets n bytes octets i = rw (getD-drop n bytes i 0) (octets (n + i))
 
 pub low-bytes-octets : (size x : ℕ) → Octets (lowBytes size x)
 unfolding lowBytes

@@ -99,6 +99,7 @@ fn refusals() {
     refusal(b"EMPTY", Refusal::EMPTY);
     refusal(b"PAGENO", Refusal::PAGENO);
     refusal(b"DAMAGED", Refusal::DAMAGED);
+    refusal(b"THIN", Refusal::THIN);
 }
 
 fn refusal(name: &[u8], number: u32) {
