@@ -197,6 +197,85 @@ static void loading_bucket(void)
     free(table);
 }
 
+/* The status of a repair, and what it tells. */
+typedef struct {
+    uint32_t status, answer, marked;
+    size_t position, value;
+    uint16_t before, after;
+} repair;
+
+static repair repair_of(uint8_t *image, size_t image_bytes, const uint8_t *its_map, size_t map_bytes, size_t page)
+{
+    uint8_t *map = lend_bytes(its_map, map_bytes);
+    repair told = {7, 7, 7, 7, 7, 7, 7};
+    told.status = cotelark_repair_page(image, image_bytes, map, map_bytes, page, &told.answer, &told.position, &told.before, &told.after,
+                                       &told.marked, &told.value);
+    free(map);
+    return told;
+}
+
+static int tells_repaired(repair told, size_t position, uint16_t before, uint16_t after, uint32_t marked)
+{
+    return told.status == 0 && told.answer == COTELARK_REPAIR_REPAIRED && told.position == position && told.before == before && told.after == after &&
+           told.marked == marked && told.value == 0;
+}
+
+/* Refused, whole or beyond: no symbol is told of. */
+static int tells_only(repair told, uint32_t status, uint32_t answer, size_t value)
+{
+    return told.status == status && told.answer == answer && told.position == 0 && told.before == 0 && told.after == 0 && told.marked == 0 &&
+           told.value == value;
+}
+
+/* The image's first page holds a 3 where the bucket has a 2, its second page a 4 where that has a 3. */
+static void repairing(void)
+{
+    static const uint8_t first_right[6] = {1, 0, 2, 0, 4, 0};
+    uint8_t *image = lend_bytes("\1\0\3\0\4\0", 6);
+    expect(tells_repaired(repair_of(image, 6, MAP, 32, 0), 1, 3, 2, 1), "repair puts symbol 1 of page 0 right, with a mark");
+    expect(memcmp(image, first_right, 6) == 0, "a repair changes one symbol");
+    expect(tells_only(repair_of(image, 6, MAP, 32, 0), 0, COTELARK_REPAIR_WHOLE, 0), "page 0 is whole then");
+    expect(tells_only(repair_of(image, 6, MAP, 31, 1), COTELARK_MAP, COTELARK_REPAIR_REFUSED, 25), "repair refuses a cut map at 25");
+    expect(tells_only(repair_of(image, 5, MAP, 32, 1), COTELARK_MATCH, COTELARK_REPAIR_REFUSED, 0), "repair refuses a short image");
+    expect(tells_only(repair_of(image, 6, MAP, 32, 2), COTELARK_PAGENO, COTELARK_REPAIR_REFUSED, 0), "repair refuses page 2");
+    expect(memcmp(image, first_right, 6) == 0, "a whole page and a refused repair change nothing");
+    expect(tells_repaired(repair_of(image, 6, MAP, 32, 1), 0, 4, 3, 1) && memcmp(image, BUCKET, 6) == 0, "repair puts page 1 right");
+    free(image);
+}
+
+/* Maps of a page of three zeros, with n of 1 to 3, over a page that has two of them damaged. */
+static void repairing_by_n(void)
+{
+    static const uint8_t one[23] = {1, 1, 0, 1, 2, 4, 0, 6, 0, 0, 0, 3, 4, 0, 6, 0, 0, 0, 4, 2, 0, 0, 0};
+    static const uint8_t two[25] = {1, 1, 0, 2, 2, 4, 0, 6, 0, 0, 0, 3, 4, 0, 6, 0, 0, 0, 4, 4, 0, 0, 0, 0, 0};
+    static const uint8_t three[27] = {1, 1, 0, 3, 2, 4, 0, 6, 0, 0, 0, 3, 4, 0, 6, 0, 0, 0, 4, 6, 0, 0, 0, 0, 0, 0, 0};
+    static const uint8_t damaged[6] = {8, 0, 6, 0, 0, 0};
+    static const uint8_t taken_for_one[6] = {8, 0, 6, 0, 1, 0};
+    uint8_t *image = lend_bytes(damaged, 6);
+    expect(tells_only(repair_of(image, 6, one, 23, 1), COTELARK_PAGENO, COTELARK_REPAIR_REFUSED, 0), "repair refuses page 1 before n = 1");
+    expect(tells_only(repair_of(image, 6, one, 23, 0), COTELARK_THIN, COTELARK_REPAIR_REFUSED, 0), "repair refuses n = 1");
+    expect(tells_only(repair_of(image, 6, three, 27, 0), 0, COTELARK_REPAIR_BEYOND, 0), "two damaged symbols are beyond with n = 3");
+    expect(memcmp(image, damaged, 6) == 0, "a page beyond repair stays");
+    expect(tells_repaired(repair_of(image, 6, two, 25, 0), 2, 0, 1, 1), "two damaged symbols are taken for one with n = 2");
+    expect(memcmp(image, taken_for_one, 6) == 0, "8, 6, 0 becomes 8, 6, 1");
+    memset(image, 0, 6);
+    expect(tells_only(repair_of(image, 6, one, 23, 0), COTELARK_THIN, COTELARK_REPAIR_REFUSED, 0), "repair refuses n = 1 for a whole page too");
+    image[5] = 0x80;
+    expect(tells_repaired(repair_of(image, 6, three, 27, 0), 2, 0x8000, 0, 0) && image[5] == 0, "a repair with n = 3 carries no mark");
+    free(image);
+}
+
+/* The entries of the symbols 41 and 141, in hex, for a page of one byte. */
+static void repairing_odd_page(void)
+{
+    static const uint8_t low[25] = {1, 1, 0, 2, 2, 4, 0, 2, 0, 0, 0, 3, 4, 0, 1, 0, 0, 0, 4, 4, 0, 0x41, 0, 0x41, 0};
+    static const uint8_t high[25] = {1, 1, 0, 2, 2, 4, 0, 2, 0, 0, 0, 3, 4, 0, 1, 0, 0, 0, 4, 4, 0, 0x41, 1, 0x41, 1};
+    uint8_t *image = lend_bytes("\1", 1);
+    expect(tells_only(repair_of(image, 1, high, 25, 0), 0, COTELARK_REPAIR_BEYOND, 0) && image[0] == 1, "no change completes an odd page");
+    expect(tells_repaired(repair_of(image, 1, low, 25, 0), 0, 1, 0x41, 1) && image[0] == 0x41, "repair puts an odd page right");
+    free(image);
+}
+
 static void captions(void)
 {
     static const uint8_t encoded[6] = {1, 0, 5, 0, 9, 0};
@@ -231,6 +310,9 @@ int main(void)
     stepping();
     loading_page();
     loading_bucket();
+    repairing();
+    repairing_by_n();
+    repairing_odd_page();
     captions();
     printf("C interface: %d held, %d failed\n", held, failed);
     return failed == 0 ? 0 : 1;

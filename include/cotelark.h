@@ -142,12 +142,12 @@ uint32_t cotelark_load_bucket(const uint8_t *image, size_t image_bytes, const ui
 
 /*
  * Puts a page of the image right that one damaged symbol keeps from its entry's signature.
- * answer: COTELARK_REPAIR_WHOLE, the page has that signature; COTELARK_REPAIR_REPAIRED, the change of one symbol gives it, and was made;
- * COTELARK_REPAIR_BEYOND, no change of one symbol does. Only a repair changes the image, and only that symbol; the zero byte that completes an odd page is
- * no part of the image, and a change that would need another byte there is none.
- * Writes the symbol's position in the page, its old and its new value, and `marked`: all 0 unless repaired.
- * marked: 1 for a repair with n = 2, which does not tell two damaged symbols from one: over a page of three zeros, 8, 6, 0 becomes 8, 6, 1. With n of 3
- * or 4 two damaged symbols are beyond repair. While the entry is that of the undamaged page, one damaged symbol is always restored.
+ * answer: COTELARK_REPAIR_WHOLE where the page has that signature; COTELARK_REPAIR_REPAIRED where the change of one symbol gives it, and was made;
+ * COTELARK_REPAIR_BEYOND where no such change does; COTELARK_REPAIR_REFUSED. Only a repair changes the image, and only in that symbol. The zero that completes
+ * an odd page is not in the image: a page that only another byte there would put right is beyond.
+ * Writes the symbol's position in the page, its old and its new value, and `marked`; all are 0 unless repaired.
+ * marked: 1 for a repair with n = 2, and 0 for one with n of 3 or 4. With n = 2 two damaged symbols may be taken for one: over a page of three zeros, 8, 6, 0
+ * becomes 8, 6, 1. With n of 3 or 4 two are beyond. As long as the entry is the undamaged page's, one damaged symbol is always restored.
  * value: 0.
  * Refused: MAP, MATCH (the image and the map's bucket differ in length), PAGENO (at or above the page count), THIN.
  */

@@ -1,4 +1,4 @@
-//! A call of one of the 14 operations with everything that is handed over, what comes out of it, and the comparison of
+//! A call of one of the 15 operations with everything that is handed over, what comes out of it, and the comparison of
 //! two programs on it.
 
 use crate::part::Part;
@@ -67,6 +67,8 @@ calls! {
     LoadPage { Given image: Bytes, Given map: Bytes, Given page: u64, Told start: u64, Told bytes: u64, Told value: u64 }
     AskPage { Given image: Bytes, Given map: Bytes, Given page: u64, Told value: u64 }
     LoadBucket { Given image: Bytes, Given map: Bytes, Lent table: Bytes, Told value: u64 }
+    RepairPage { Lent image: Bytes, Given map: Bytes, Given page: u64,
+                 Told answer: u32, Told position: u64, Told old_symbol: u16, Told new_symbol: u16, Told marked: u32, Told value: u64 }
     Encode { Given plain: Bytes, Lent output: Bytes, Told value: u64 }
     Decode { Given code: Bytes, Lent output: Bytes, Told value: u64 }
     Search { Given code: Bytes, Given pattern: Bytes, Lent list: Numbers, Told value: u64 }

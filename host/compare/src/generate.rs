@@ -145,7 +145,7 @@ fn scatter(dice: &mut Dice, bytes: &mut [u8], most: u64) {
 }
 
 fn call_on(dice: &mut Dice, (table, image, map): (&[u8], &[u8], &[u8]), pages: u64, page: u64) -> Call {
-    match dice.below(7) {
+    match dice.below(8) {
         0 => handed::read_map(map),
         1 => {
             let needed = second::list_map(map, &mut []).unwrap_or_else(|refusal| refusal.value);
@@ -155,8 +155,62 @@ fn call_on(dice: &mut Dice, (table, image, map): (&[u8], &[u8], &[u8]), pages: u
         3 => handed::step(page, table, image, map),
         4 => handed::load_page(image, map, page),
         5 => handed::ask_page(image, map, page),
-        _ => handed::load_bucket(image, map, table),
+        6 => handed::load_bucket(image, map, table),
+        _ => repair(dice, image, map, page),
     }
+}
+
+/// A repair of a page, if it is there, that is mostly damaged first.
+fn repair(dice: &mut Dice, image: &[u8], map: &[u8], page: u64) -> Call {
+    let (mut image, mut map) = (image.to_vec(), map.to_vec());
+    if let Ok(header) = second::read_map(&map) {
+        let bytes = image.chunks_mut(header.page_bytes as usize).nth(page as usize);
+        let entry = map[18..].chunks_mut(3 + 2 * header.n as usize).nth(page as usize);
+        if let (Some(bytes), Some(entry)) = (bytes, entry) {
+            damage(dice, bytes, &mut entry[3..]);
+        }
+    }
+    handed::repair_page(&image, &map, page)
+}
+
+/// Damages up to three symbols of a page, or its entry, or nothing.
+fn damage(dice: &mut Dice, page: &mut [u8], entry: &mut [u8]) {
+    let symbols = page.len().div_ceil(2) as u64;
+    match dice.below(8) {
+        0 => (),
+        1..=4 => (0..dice.pick(&[1, 1, 1, 2, 3])).for_each(|_| add(page, dice.below(symbols), symbol(dice))),
+        5 => damage_two_of_three(dice, page, symbols),
+        6 => scatter(dice, entry, 2),
+        _ => enter_a_change(dice, page, symbols, entry),
+    }
+}
+
+/// Adds two symbols of a multiple of (8, 6, 1), which has the signature of zeros for n = 2: they look like the third alone.
+fn damage_two_of_three(dice: &mut Dice, page: &mut [u8], symbols: u64) {
+    let (start, multiple, left_out) = (dice.below(symbols), symbol(dice), dice.below(3));
+    for (place, factor) in (0..3).zip([8, 6, 1]).filter(|(place, _)| *place != left_out && start + place < symbols) {
+        add(page, start + place, second::product(multiple, factor));
+    }
+}
+
+/// Makes the entry that of the page with one symbol changed, which may lie past the page: zeros there do not change the signature.
+fn enter_a_change(dice: &mut Dice, page: &[u8], symbols: u64, entry: &mut [u8]) {
+    let mut longer = page.to_vec();
+    longer.resize(page.len() + 5, 0);
+    add(&mut longer, dice.below(symbols + 2), symbol(dice));
+    let signature = second::sign(entry.len() as u64 / 2, &longer).expect("allowed sizes");
+    entry.chunks_mut(2).zip(signature.components).for_each(|(bytes, component)| bytes.copy_from_slice(&component.to_le_bytes()));
+}
+
+/// Adds to the symbol at a position, as far as it has bytes.
+fn add(page: &mut [u8], position: u64, symbol: u16) {
+    page[2 * position as usize..].iter_mut().zip(symbol.to_le_bytes()).for_each(|(byte, change)| *byte ^= change);
+}
+
+/// Any symbol, one with a zero byte, or 1.
+fn symbol(dice: &mut Dice) -> u16 {
+    let any = dice.number() as u16;
+    dice.pick(&[any, any & 0xFF, any & 0xFF00, 1])
 }
 
 /// A caption field, nearly always of whole symbols.
@@ -199,7 +253,7 @@ fn act(dice: &mut Dice) -> Act {
         1 => DamageMap,
         2..=4 => SetPlace,
         5..=17 => dice.pick(&[EditByte, EditFlags, EditPage, EditSymbols]),
-        _ => dice.pick(&[Store, Step, Step, Step, LoadPage, AskPage, LoadBucket]),
+        _ => dice.pick(&[Store, Step, Step, Step, LoadPage, AskPage, LoadBucket, RepairPage]),
     };
     let at = match kind {
         EditByte | DamageImage | DamageMap => dice.number(),

@@ -8,6 +8,8 @@ pub const JUNK: [u16; 4] = [0xDEAD, 0xBEEF, 0x0BAD, 0xF00D];
 pub const JUNK_BYTE: u8 = 0xEE;
 /// What stands in each number of a list, and in each number told, before it is written.
 pub const JUNK_NUMBER: u64 = 0xDEAD_BEEF_0BAD_F00D;
+/// What stands in an answer, and in the mark of a repair, before it is written.
+pub const JUNK_ANSWER: u32 = 0x0BAD_F00D;
 
 pub fn sign(n: u64, object: &[u8]) -> Call {
     Call::Sign { n, object: object.to_vec(), signature: JUNK }
@@ -43,7 +45,7 @@ pub fn store(table: &[u8], image: &[u8], map: &[u8], room: usize) -> Call {
 
 pub fn step(place: u64, table: &[u8], image: &[u8], map: &[u8]) -> Call {
     let (table, image, map) = (table.to_vec(), image.to_vec(), map.to_vec());
-    Call::Step { place, table, image, map, answer: 0x0BAD_F00D, value: JUNK_NUMBER }
+    Call::Step { place, table, image, map, answer: JUNK_ANSWER, value: JUNK_NUMBER }
 }
 
 pub fn load_page(image: &[u8], map: &[u8], page: u64) -> Call {
@@ -57,6 +59,13 @@ pub fn ask_page(image: &[u8], map: &[u8], page: u64) -> Call {
 
 pub fn load_bucket(image: &[u8], map: &[u8], table: &[u8]) -> Call {
     Call::LoadBucket { image: image.to_vec(), map: map.to_vec(), table: table.to_vec(), value: JUNK_NUMBER }
+}
+
+pub fn repair_page(image: &[u8], map: &[u8], page: u64) -> Call {
+    let [answer, marked] = [JUNK_ANSWER; 2];
+    let [position, value] = [JUNK_NUMBER; 2];
+    let [old_symbol, new_symbol, ..] = JUNK;
+    Call::RepairPage { image: image.to_vec(), map: map.to_vec(), page, answer, position, old_symbol, new_symbol, marked, value }
 }
 
 pub fn encode(plain: &[u8], room: usize) -> Call {

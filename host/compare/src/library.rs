@@ -27,6 +27,9 @@ extern "C" {
         value: *mut usize) -> u32;
     fn cotelark_load_bucket(image: *const u8, image_bytes: usize, map: *const u8, map_bytes: usize,
         table: *mut u8, table_bytes: usize, value: *mut usize) -> u32;
+    fn cotelark_repair_page(image: *mut u8, image_bytes: usize, map: *const u8, map_bytes: usize, page: usize,
+        answer: *mut u32, position: *mut usize, old_symbol: *mut u16, new_symbol: *mut u16, marked: *mut u32,
+        value: *mut usize) -> u32;
     fn cotelark_encode(plain: *const u8, plain_bytes: usize, output: *mut u8, output_bytes: usize, value: *mut usize)
         -> u32;
     fn cotelark_decode(code: *const u8, code_bytes: usize, output: *mut u8, output_bytes: usize, value: *mut usize)
@@ -46,12 +49,20 @@ pub const ROOM: u32 = 7;
 pub const EMPTY: u32 = 8;
 pub const PAGENO: u32 = 9;
 pub const DAMAGED: u32 = 10;
+pub const THIN: u32 = 14;
+
+/// The header's number of the answer of a refused step, and of a refused repair.
+pub const REFUSED: u32 = 0;
 
 /// The header's numbers of a step's answers.
-pub const REFUSED: u32 = 0;
 pub const KEPT: u32 = 1;
 pub const WRITTEN: u32 = 2;
 pub const FINISHED: u32 = 3;
+
+/// The header's numbers of a repair's answers.
+pub const WHOLE: u32 = 1;
+pub const REPAIRED: u32 = 2;
+pub const BEYOND: u32 = 3;
 
 /// Writes out a C call: a `number` is handed over by value, a `pointer` alone, a `buffer` as pointer and length.
 macro_rules! c_call {
@@ -109,6 +120,9 @@ fn hand_over(call: &Call, lent: &mut Loan) -> u32 {
             buffer image buffer map number page pointer value),
         Call::LoadBucket { image, map, table, .. } => c_call!(lent cotelark_load_bucket()
             buffer image buffer map buffer table pointer value),
+        Call::RepairPage { image, map, page, .. } => c_call!(lent cotelark_repair_page()
+            buffer image buffer map number page
+            pointer answer pointer position pointer old_symbol pointer new_symbol pointer marked pointer value),
         Call::Encode { plain, output, .. } => c_call!(lent cotelark_encode() buffer plain buffer output pointer value),
         Call::Decode { code, output, .. } => c_call!(lent cotelark_decode() buffer code buffer output pointer value),
         Call::Search { code, pattern, list, .. } => c_call!(lent cotelark_search()

@@ -2,7 +2,7 @@
 
 use std::ops::Range;
 
-/// A buffer, a list, the four symbols of a signature, or a single number.
+/// A buffer, a list, the four symbols of a signature, a single number, or a single symbol.
 pub trait Part {
     /// Bytes of one value.
     fn width(&self) -> usize;
@@ -85,6 +85,7 @@ macro_rules! part {
 
 part!(u64, 8, false, number => number.to_ne_bytes().to_vec(), memory => value(memory));
 part!(u32, 4, false, number => number.to_ne_bytes().to_vec(), memory => value(memory) as u32);
+part!(u16, 2, false, symbol => symbol.to_ne_bytes().to_vec(), memory => value(memory) as u16);
 part!(Vec<u8>, 1, true, bytes => bytes.clone(), memory => memory.to_vec());
 part!(Vec<u64>, 8, true,
     list => list.iter().flat_map(|number| number.to_ne_bytes()).collect(), memory => memory.chunks(8).map(value).collect());

@@ -31,6 +31,7 @@ pub enum Kind {
     LoadPage,
     AskPage,
     LoadBucket,
+    RepairPage,
 }
 
 /// An act on the backup at a byte, page or place; any numbers will do, so that a run can be shrunk.
@@ -138,6 +139,7 @@ impl Backup {
             Kind::Step => handed::step(*place, table, image, map),
             Kind::LoadPage => handed::load_page(image, map, act.at),
             Kind::AskPage => handed::ask_page(image, map, act.at),
+            Kind::RepairPage => handed::repair_page(image, map, act.at),
             _ => handed::load_bucket(image, map, table),
         }
     }
@@ -168,6 +170,7 @@ impl Backup {
             Call::Store { image, map, .. } => (self.image, self.map) = (image, map),
             Call::Step { place, image, map, .. } => (self.place, self.image, self.map) = (place, image, map),
             Call::LoadBucket { table, .. } => self.table = table,
+            Call::RepairPage { image, .. } => self.image = image,
             _ => (),
         }
     }

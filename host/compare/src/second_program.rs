@@ -1,8 +1,8 @@
 //! The second program, put behind the same calls as the library.
 
 use crate::call::{Call, Outcome, Program};
-use crate::library::{FINISHED, KEPT, REFUSED, WRITTEN};
-use second::{Refusal, Signature, Step};
+use crate::library::{BEYOND, FINISHED, KEPT, REFUSED, REPAIRED, WHOLE, WRITTEN};
+use second::{Refusal, Repair, Signature, Step};
 
 /// The second program.
 pub struct Second;
@@ -47,6 +47,11 @@ fn carry_out(call: &mut Call) -> u32 {
         }
         Call::AskPage { image, map, page, value } => tell([value], second::ask_page(image, map, *page).map_or(Ok([0]), Err)),
         Call::LoadBucket { image, map, table, value } => tell([value], second::load_bucket(image, map, table).map(|bytes| [bytes])),
+        Call::RepairPage { image, map, page, answer, position, old_symbol, new_symbol, marked, value } => {
+            let repair = second::repair_page(image, map, *page);
+            (*answer, *position, *old_symbol, *new_symbol, *marked) = numbers_of(&repair);
+            tell([value], repair.map(|_| [0]))
+        }
         Call::Encode { plain, output, value } => tell([value], second::encode(plain, output).map(|bytes| [bytes])),
         Call::Decode { code, output, value } => tell([value], second::decode(code, output).map(|bytes| [bytes])),
         Call::Search { code, pattern, list, value } => tell([value], second::search(code, pattern, list).map(|found| [found])),
@@ -85,4 +90,14 @@ fn tell_step(answer: &mut u32, value: &mut u64, step: Result<Step, Refusal>) -> 
     };
     (*answer, *value) = (told, page);
     status
+}
+
+/// What a repair tells beside its value: the answer, the symbol's position, its old and new value, and the mark.
+fn numbers_of(repair: &Result<Repair, Refusal>) -> (u32, u64, u16, u16, u32) {
+    match *repair {
+        Ok(Repair::Whole) => (WHOLE, 0, 0, 0, 0),
+        Ok(Repair::Repaired { position, old, new, marked }) => (REPAIRED, position, old, new, u32::from(marked)),
+        Ok(Repair::Beyond) => (BEYOND, 0, 0, 0, 0),
+        Err(_) => (REFUSED, 0, 0, 0, 0),
+    }
 }

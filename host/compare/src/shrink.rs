@@ -59,7 +59,7 @@ impl Input for Call {
 fn buckets_and_map(call: &mut Call) -> Option<(Vec<&mut Vec<u8>>, &mut Vec<u8>)> {
     match call {
         Call::ReadMap { map, .. } | Call::ListMap { map, .. } => Some((vec![], map)),
-        Call::LoadPage { image, map, .. } | Call::AskPage { image, map, .. } => Some((vec![image], map)),
+        Call::LoadPage { image, map, .. } | Call::AskPage { image, map, .. } | Call::RepairPage { image, map, .. } => Some((vec![image], map)),
         Call::Store { table, image, map, .. } | Call::Step { table, image, map, .. } | Call::LoadBucket { image, map, table, .. } => {
             Some((vec![table, image], map))
         }

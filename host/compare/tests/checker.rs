@@ -5,7 +5,7 @@ use compare::call::{difference, Call, Outcome, Program};
 use compare::dice::Dice;
 use compare::generate;
 use compare::hunt::{hunt, Case, Finding};
-use compare::library::{KEPT, ROOM, WRITTEN};
+use compare::library::{BEYOND, KEPT, REPAIRED, ROOM, WHOLE, WRITTEN};
 use compare::part::Part;
 use compare::run::{Kind, Run};
 use compare::second_program::Second;
@@ -84,6 +84,27 @@ fn a_store_that_writes_a_page_and_past_its_list() {
     });
     let Call::Store { table, image, map, list, .. } = smallest else { panic!("{smallest}") };
     assert_eq!((table.len(), image.len(), map.len(), list.len()), (1, 1, 23, 2));
+}
+
+#[test]
+fn a_repair_without_its_mark() {
+    let smallest = smallest_call(|_, outcome| {
+        let Call::RepairPage { marked, .. } = &mut outcome.after else { return };
+        *marked = 0;
+    });
+    let Call::RepairPage { image, map, page: 0, .. } = smallest else { panic!("{smallest}") };
+    assert_eq!((image.len(), map.len()), (3, 25));
+    assert_eq!(image.iter().filter(|&&byte| byte != 0).count(), 1);
+}
+
+#[test]
+fn a_page_beyond_repair_that_is_changed_all_the_same() {
+    let smallest = smallest_call(|_, outcome| {
+        let Call::RepairPage { image, answer: BEYOND, .. } = &mut outcome.after else { return };
+        image[0] ^= 1;
+    });
+    let Call::RepairPage { image, map, page: 0, .. } = smallest else { panic!("{smallest}") };
+    assert_eq!((image.len(), map.len()), (3, 25));
 }
 
 #[test]
@@ -184,7 +205,7 @@ fn random_calls_meet_every_answer_of_every_operation() {
     let mut dice = Dice::new(1);
     let calls = (0..50_000).map(|_| generate::call(&mut dice));
     let met: BTreeSet<(&str, u32)> = calls.map(|call| (call.operation(), Second.run(&call).status)).collect();
-    let answers: [(&str, &[u32]); 14] = [
+    let answers: [(&str, &[u32]); 15] = [
         ("Sign", &[0, 1, 3]),
         ("Join", &[0, 1, 3, 6]),
         ("Edit", &[0, 1, 3, 4, 6]),
@@ -196,10 +217,24 @@ fn random_calls_meet_every_answer_of_every_operation() {
         ("LoadPage", &[0, 5, 6, 9, 10]),
         ("AskPage", &[0, 5, 6, 9, 10]),
         ("LoadBucket", &[0, 5, 6, 10]),
+        ("RepairPage", &[0, 5, 6, 9, 14]),
         ("Encode", &[0, 3, 4, 7]),
         ("Decode", &[0, 3, 4, 7]),
         ("Search", &[0, 3, 4, 7, 8]),
     ];
     let due = answers.iter().flat_map(|(operation, answers)| answers.iter().map(|answer| (*operation, *answer)));
     assert_eq!(met, due.collect());
+}
+
+#[test]
+fn random_repairs_meet_every_answer_with_each_n() {
+    let mut dice = Dice::new(1);
+    let mut met = BTreeSet::new();
+    for call in (0..50_000).map(|_| generate::call(&mut dice)) {
+        if let Outcome { status: 0, after: Call::RepairPage { map, answer, marked, .. }, .. } = Second.run(&call) {
+            met.insert((map[3], answer, marked));
+        }
+    }
+    let answers = |n: u8| [(n, WHOLE, 0), (n, REPAIRED, u32::from(n == 2)), (n, BEYOND, 0)];
+    assert_eq!(met, [2, 3, 4].into_iter().flat_map(answers).collect());
 }

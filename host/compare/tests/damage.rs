@@ -22,6 +22,7 @@ fn readings(image: &[u8], map: &[u8]) -> Vec<Call> {
         load_page(image, map, pages.saturating_sub(1) as u64),
         ask_page(image, map, 0),
         load_bucket(image, map, &table),
+        repair_page(image, map, pages.saturating_sub(1) as u64),
     ]
 }
 

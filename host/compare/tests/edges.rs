@@ -3,7 +3,7 @@
 use compare::call::Call;
 use compare::dice::Dice;
 use compare::handed::*;
-use compare::library::{EMPTY, FINISHED, KEPT, LONG, MAP, MATCH, ODD, PAGE, PAGENO, ROOM, WRITTEN};
+use compare::library::{EMPTY, FINISHED, KEPT, LONG, MAP, MATCH, ODD, PAGE, PAGENO, REPAIRED, ROOM, WHOLE, WRITTEN};
 use compare::run::true_map;
 use compare::{both, done, refused};
 
@@ -74,7 +74,7 @@ fn make_and_use(page_bytes: u64, bucket: &[u8]) {
     use_backup(page_bytes, bucket, pages as u64);
 }
 
-/// A store of one changed byte in the last page, the last steps, and loads.
+/// A store of one changed byte in the last page, the last steps, loads, and repairs of that byte.
 fn use_backup(page_bytes: u64, bucket: &[u8], pages: u64) {
     let map = true_map(2, page_bytes, bucket);
     let mut table = bucket.to_vec();
@@ -90,6 +90,10 @@ fn use_backup(page_bytes: u64, bucket: &[u8], pages: u64) {
     assert_eq!((start, start + bytes), ((pages - 1) * page_bytes, bucket.len() as u64));
     refused(&load_page(bucket, &map, pages), PAGENO, 0);
     assert_eq!(done(&load_bucket(bucket, &map, &table)).value(), bucket.len() as u64);
+    let Call::RepairPage { image, answer: REPAIRED, .. } = done(&repair_page(&table, &map, pages - 1)) else { panic!() };
+    assert!(image == bucket);
+    let Call::RepairPage { answer: WHOLE, .. } = done(&repair_page(&image, &map, pages - 1)) else { panic!() };
+    refused(&repair_page(&table, &map, pages), PAGENO, 0);
 }
 
 #[test]
@@ -141,11 +145,12 @@ fn everything_empty() {
         refused(&step(1, &[], &[], &map), PAGENO, 0);
         refused(&load_page(&[], &map, 0), PAGENO, 0);
         refused(&ask_page(&[], &map, 0), PAGENO, 0);
+        refused(&repair_page(&[], &map, 0), PAGENO, 0);
         assert_eq!(done(&load_bucket(&[], &map, &[])).value(), 0);
         refused(&store(&[1], &[], &map, 0), MATCH, 0);
     }
     let without_map = [read_map(&[]), store(&[], &[], &[], 0), step(0, &[], &[], &[]), load_page(&[], &[], 0), ask_page(&[], &[], 0)];
-    for call in without_map.iter().chain([&load_bucket(&[], &[], &[])]) {
+    for call in without_map.iter().chain([&load_bucket(&[], &[], &[]), &repair_page(&[], &[], 0)]) {
         refused(call, MAP, 0);
     }
     for call in [encode(&[], 0), decode(&[], 0), search(&[], &[0, 0], 0)] {

@@ -3,7 +3,7 @@
 
 use compare::call::Call;
 use compare::handed::*;
-use compare::library::{DAMAGED, EMPTY, LONG, MAP, MATCH, ODD, PAGE, PAGENO, ROOM, SIZE};
+use compare::library::{DAMAGED, EMPTY, LONG, MAP, MATCH, ODD, PAGE, PAGENO, REFUSED, ROOM, SIZE, THIN};
 use compare::{done, refused, BUCKET, ITS_MAP};
 
 /// Case 12's map with its last field cut short, which breaks at 25.
@@ -12,6 +12,8 @@ const CUT: &[u8] = ITS_MAP.split_at(31).0;
 const SHORT: &[u8] = BUCKET.split_at(5).0;
 /// An image whose two pages both differ from their entries.
 const BAD: [u8; 6] = [1, 0, 2, 1, 3, 1];
+/// Case 12's map with the first component of each entry only, n = 1.
+const THIN_MAP: [u8; 28] = [1, 1, 0, 1, 2, 4, 0, 4, 0, 0, 0, 3, 4, 0, 6, 0, 0, 0, 4, 2, 0, 5, 0, 4, 2, 0, 3, 0];
 
 #[test]
 fn sign_1_3() {
@@ -140,6 +142,34 @@ fn load_bucket_5_6_10() {
     refused(&load_bucket(&BAD, &ITS_MAP, &[0; 7]), MATCH, 0);
     refused(&load_bucket(&BAD, &ITS_MAP, &[0; 6]), DAMAGED, 0);
     refused(&load_bucket(&[1, 0, 2, 0, 3, 1], &ITS_MAP, &[0; 6]), DAMAGED, 1);
+}
+
+/// A refused repair: it tells of no symbol, and leaves the image as it was.
+fn repair_refused(image: &[u8], map: &[u8], page: u64, number: u32, value: u64) {
+    let call = repair_page(image, map, page);
+    refused(&call, number, value);
+    let Call::RepairPage { image: after, answer, position, old_symbol, new_symbol, marked, .. } = compare::both(&call).after else { panic!() };
+    assert_eq!((answer, position, old_symbol, new_symbol, marked), (REFUSED, 0, 0, 0, 0), "{call}");
+    assert_eq!(after, image);
+}
+
+#[test]
+fn repair_page_5_6_9_14() {
+    for image in [BUCKET, BAD] {
+        for (map, last_entry) in [(&ITS_MAP[..], 25), (&THIN_MAP, 23)] {
+            let cut = &map[..map.len() - 1];
+            repair_refused(&image, cut, 0, MAP, last_entry);
+            repair_refused(&image[..5], cut, 0, MAP, last_entry);
+            repair_refused(&image, cut, 2, MAP, last_entry);
+            repair_refused(&image[..5], map, 0, MATCH, 0);
+            repair_refused(&[&image[..], &[0]].concat(), map, 0, MATCH, 0);
+            repair_refused(&image[..5], map, 2, MATCH, 0);
+            repair_refused(&image, map, 2, PAGENO, 0);
+            repair_refused(&image, map, u64::MAX, PAGENO, 0);
+        }
+        repair_refused(&image, &THIN_MAP, 0, THIN, 0);
+        repair_refused(&image, &THIN_MAP, 1, THIN, 0);
+    }
 }
 
 #[test]

@@ -13,7 +13,7 @@ pub enum Step {
 }
 
 /// Reads the map and holds the lengths that belong to it against its bucket bytes.
-fn matched(map: &[u8], lengths: &[usize]) -> Result<Header, Refusal> {
+pub(crate) fn matched(map: &[u8], lengths: &[usize]) -> Result<Header, Refusal> {
     let header = read_map(map)?;
     refuse_if(lengths.iter().any(|&bytes| bytes as u64 != header.bucket_bytes), MATCH, 0)?;
     Ok(header)

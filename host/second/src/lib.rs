@@ -5,12 +5,14 @@ mod backup;
 mod caption;
 mod field;
 mod map;
+mod repair;
 mod signature;
 
 pub use backup::{ask_page, load_bucket, load_page, step, store, Step};
 pub use caption::{decode, encode, search};
 pub use field::{power, product, ORDER};
 pub use map::{list_map, make_map, read_map, Header};
+pub use repair::{repair_page, Repair};
 pub use signature::{edit, join, sign, Signature};
 
 pub const SIZE: u32 = 1;
@@ -23,6 +25,7 @@ pub const ROOM: u32 = 7;
 pub const EMPTY: u32 = 8;
 pub const PAGENO: u32 = 9;
 pub const DAMAGED: u32 = 10;
+pub const THIN: u32 = 14;
 
 /// Why a call is turned down: its number in the scope's table, and the value beside it.
 #[derive(Clone, Copy, Debug, PartialEq, Eq)]

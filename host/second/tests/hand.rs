@@ -1,4 +1,4 @@
-//! The second program against the scope's numbers to check by hand, typed in from there.
+//! The second program against the scope's numbers to check by hand, typed in from there, and against repairs worked out by hand.
 
 use second::*;
 
@@ -96,4 +96,116 @@ fn a_store_writes_the_page_that_differs_and_a_load_brings_it_back() {
     let mut lent = [7; 6];
     assert_eq!((load_bucket(&image, &map, &mut lent), lent), (Err(refusal(DAMAGED, 0)), [7; 6]));
     assert_eq!((load_bucket(&BUCKET, &map, &mut lent), lent), (Ok(6), BUCKET));
+}
+
+/// The map of a bucket with these entries, n components each, written out field by field.
+fn map_with(page_bytes: u8, bucket_bytes: u8, entries: &[&[u16]]) -> Vec<u8> {
+    let n = entries[0].len() as u8;
+    let mut map = vec![1, 1, 0, n, 2, 4, 0, page_bytes, 0, 0, 0, 3, 4, 0, bucket_bytes, 0, 0, 0];
+    for entry in entries {
+        map.extend([4, 2 * n, 0]);
+        map.extend(bytes(entry));
+    }
+    map
+}
+
+/// What a repair of the only page, with this entry, answers and leaves.
+fn repair(page: &[u8], entry: &[u16]) -> (Repair, Vec<u8>) {
+    let (mut image, map) = (page.to_vec(), map_with(8, page.len() as u8, &[entry]));
+    (repair_page(&mut image, &map, 0).expect("n is 2 to 4"), image)
+}
+
+/// A page that stays as it is and is beyond repair.
+fn beyond(page: &[u8], entry: &[u16]) {
+    assert_eq!(repair(page, entry), (Repair::Beyond, page.to_vec()), "{entry:x?}");
+}
+
+#[test]
+fn two_damaged_symbols_are_taken_for_one_with_n_2_only() {
+    let damaged = bytes(&[8, 6, 0]);
+    let repaired = Repair::Repaired { position: 2, old: 0, new: 1, marked: true };
+    assert_eq!(repair(&damaged, &[0, 0]), (repaired, bytes(&[8, 6, 1])));
+    assert_eq!(repair(&damaged[..5], &[0, 0]), (repaired, vec![8, 0, 6, 0, 1]));
+    beyond(&damaged, &[0, 0, 0]);
+    beyond(&damaged, &[0, 0, 0, 0]);
+    // Without a third symbol there is none to be taken for the damaged one.
+    beyond(&damaged[..4], &[0, 0]);
+}
+
+#[test]
+fn the_pages_of_case_12_are_repaired() {
+    let mut image = [1, 0, 3, 0, 4, 0];
+    // (1, 3) has the signature (7, D), by case 8, and the entry differs from it by (2, 4): a 1 at position 1.
+    assert_eq!(repair_page(&mut image, &CASE_12, 0), Ok(Repair::Repaired { position: 1, old: 3, new: 2, marked: true }));
+    assert_eq!(image, [1, 0, 2, 0, 4, 0], "only the page asked for changes");
+    assert_eq!(repair_page(&mut image, &CASE_12, 0), Ok(Repair::Whole));
+    assert_eq!(repair_page(&mut image, &CASE_12, 1), Ok(Repair::Repaired { position: 0, old: 4, new: 3, marked: true }));
+    assert_eq!(image, BUCKET);
+    assert_eq!((repair_page(&mut image, &CASE_12, 1), image), (Ok(Repair::Whole), BUCKET));
+}
+
+#[test]
+fn one_damaged_symbol_is_restored_at_every_position() {
+    let page = bytes(&[1, 2, 0x8000, 0]);
+    for n in 2..=4 {
+        let entry = &signed(n, &[1, 2, 0x8000, 0])[..n as usize];
+        assert_eq!(repair(&page, entry), (Repair::Whole, page.clone()));
+        for (i, &symbol) in [1, 2, 0x8000, 0].iter().enumerate() {
+            for value in [3, 0x41, 0x100, 0x7FFF, 0xFFFF] {
+                let mut damaged = page.clone();
+                damaged[2 * i..2 * i + 2].copy_from_slice(&u16::to_le_bytes(value));
+                let repaired = Repair::Repaired { position: i as u64, old: value, new: symbol, marked: n == 2 };
+                assert_eq!(repair(&damaged, entry), (repaired, page.clone()));
+            }
+        }
+    }
+}
+
+#[test]
+fn the_last_symbol_of_an_odd_page_has_its_low_byte_only() {
+    let repaired = |position, old, new| Repair::Repaired { position, old, new, marked: true };
+    assert_eq!(repair(&[0], &[0x41, 0x41]), (repaired(0, 0, 0x41), vec![0x41]));
+    assert_eq!(repair(&[1, 0, 7], &[5, 9]), (repaired(1, 7, 2), vec![1, 0, 2]));
+    // 141 at position 0 has the signature (141, 141), and (1, 102) has (205, 409).
+    beyond(&[0], &[0x141, 0x141]);
+    beyond(&[0x41], &[0x141, 0x141]);
+    beyond(&[1, 0, 2], &[0x205, 0x409]);
+    assert_eq!(repair(&[0x41, 0], &[0x141, 0x141]), (repaired(0, 0x41, 0x141), vec![0x41, 1]));
+    assert_eq!(repair(&[1, 0, 2, 0], &[0x205, 0x409]), (repaired(1, 2, 0x102), vec![1, 0, 2, 1]));
+}
+
+#[test]
+fn a_change_that_does_not_fit_is_beyond() {
+    // A 1 at position 2 has the signature (4, 10, 40, 100).
+    for n in 2..=4 {
+        let entry = &[4, 0x10, 0x40, 0x100][..n];
+        beyond(&[0; 4], entry);
+        assert_eq!(repair(&[0; 5], entry), (Repair::Repaired { position: 2, old: 0, new: 1, marked: n == 2 }, vec![0, 0, 0, 0, 1]));
+    }
+    // A zero among the differences, and a third or fourth component that belongs to another change.
+    for entry in [&[0, 5][..], &[5, 0], &[0, 0, 1], &[1, 1, 0], &[0, 0, 0, 1], &[1, 1, 2], &[1, 1, 1, 2], &[1, 1, 2, 1]] {
+        beyond(&[0; 6], entry);
+    }
+}
+
+#[test]
+fn repairs_are_refused_by_map_match_pageno_and_thin() {
+    let thin = map_with(4, 6, &[&[5], &[3]]);
+    let refused = |bytes: &[u8], map: &[u8], page, number, value| {
+        let mut image = bytes.to_vec();
+        assert_eq!((repair_page(&mut image, map, page), &image[..]), (Err(refusal(number, value)), bytes));
+    };
+    for map in [&CASE_12[..], &thin] {
+        let cut = &map[..map.len() - 1];
+        let last_entry = 18 + (map.len() - 18) / 2;
+        refused(&BUCKET, cut, 0, MAP, last_entry as u64);
+        refused(&BUCKET[..5], cut, 2, MAP, last_entry as u64);
+        refused(&BUCKET[..5], map, 0, MATCH, 0);
+        refused(&BUCKET[..5], map, 2, MATCH, 0);
+        refused(&BUCKET, map, 2, PAGENO, 0);
+        refused(&BUCKET, map, u64::MAX, PAGENO, 0);
+    }
+    refused(&BUCKET, &thin, 0, THIN, 0);
+    refused(&[1, 0, 9, 0, 3, 0], &thin, 0, THIN, 0);
+    refused(&BUCKET, &thin, 1, THIN, 0);
 }
