@@ -31,12 +31,12 @@ use Rattle.repair.specs.declared.Repair.the-variants.{Whole, Repaired, B
 abbrev pub changeOf : ℕ → List ℕ → ℕ → ℕ → Change
 changeOf n page i x = record { position = record { count = i }; old = symbol 2 page i; new = x; marked = eqb n 2 }
 
--- where a change gives the signature s, that change
+-- the change that gives the signature s; there is at most one
 unfoldable pub put : Signature → List ℕ → Repair
 put s page =
     cond (ltb (position wide s page) (symbols 2 page)) (Repaired (changeOf (s .n) page (position wide s page) (valueAt wide s page (position wide s page)))) Beyond
 
--- a page by its entry; every entry of a map that was read has the tag 04
+-- a page by its entry; every entry of a map that was read has the tag 04, and one with another would make its page beyond, here
 unfoldable pub mended : Entry → List ℕ → Repair
 mended e page = cond (same (own wide (e .signature .n) page) (e .signature)) Whole (put (e .signature) page)
 

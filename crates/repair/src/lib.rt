@@ -89,7 +89,7 @@ fn mend(entry: Entry, page: &mut [u8]) -> Repair
     repair
 }
 
-// What is wrong with a page.
+// What is wrong with a page. Every entry that was read has the tag 04; one with another tag would make its page beyond, here and nowhere else.
 fn diagnose(entry: Entry, page: &[u8]) -> Repair
     requires { ⌜ (2 ≤ entry .signature .n) × (entry .signature .n ≤ 4) × (Object·symbols 2 (now page) ≤ 65534) ⌝ }
     ensures { λ r. ⌜ r ≡ Page·mended entry (now (page .entry)) ⌝ }
@@ -102,7 +102,7 @@ fn diagnose(entry: Entry, page: &[u8]) -> Repair
     find(s, own, page)
 }
 
-// The first two components that differ name one position and one change there; the others are to be met by it too.
+// How the first two components differ names one position and one value there. Whether that fits, the signature of the page changed so decides.
 fn find(s: Signature, own: Signature, page: &[u8]) -> Repair
     requires { ⌜ (2 ≤ s .n) × (s .n ≤ 4) × (Object·symbols 2 (now page) ≤ 65534) × (own ≡ Object·own wide (s .n) (now page)) × (same own s ≡ false) ⌝ }
     ensures { λ r. ⌜ r ≡ Page·put s (now (page .entry)) ⌝ }
@@ -127,7 +127,7 @@ fn find(s: Signature, own: Signature, page: &[u8]) -> Repair
     })
 }
 
-// The lowest power of α, below the m-th, that makes b of a; m if none does.
+// The lowest i below m for which a · α^i is b; m if there is none.
 fn power_between(a: u16, b: u16, m: usize) -> usize
     ensures { λ r. ⌜ r ≡ firstNamed (λ i. eqb (Field·product GF16 a (Field·power GF16 α i)) b) m 0 ⌝ }
 {
