@@ -8,11 +8,12 @@ use native.Mathlib.Nat.{div-add-mod, mod-lt, mod-eq-of-lt, pos-of-ne-zero, add-s
 use native.Mathlib.Decide.{decLe, ℕ-discrete}
 use native.Mathlib.Omega.{arith}
 use lib.Pow.{pow-lt}
-use Rattle.field.specs.Field.{Field, Element, product, power, α, order}
-use Rattle.field.proofs.Reducing.{zero-product}
-use Rattle.field.proofs.Products.{product-comm, product-assoc, one-product}
-use Rattle.field.proofs.Powers.{product-zero, α-element, α-power, power-zero, power-add, power-mul, power-one}
+use Rattle.field.specs.Field.{Field, Element, _⊕_, product, power, α, order}
 use Rattle.field.proofs.Pigeonhole.{onto}
+use Rattle.field.proofs.Powers.{product-zero, α-element, α-power, power-zero, power-add, power-mul, power-one}
+use Rattle.field.proofs.Products.{product-comm, product-assoc, one-product}
+use Rattle.field.proofs.Reducing.{zero-product, product-sum}
+use Rattle.field.proofs.Sums.{sum-self, sum-lt, equal-of-sum}
 use Rattle.field.proofs.Tests.{Passes, formed, α-returns, α-divisor}
 
 module _ (F : Field) (good : Passes F) where
@@ -126,3 +127,9 @@ module _ (F : Field) (good : Passes F) where
       ∙ product-assoc F (formed F good) hc ha hb
       ∙ ap (product F c) e
       ∙ product-zero F (formed F good) c
+
+  -- so a factor may be taken off
+  pub cancel : {d a b : ℕ} → Element F d → Element F a → Element F b → d ≢ 0 → product F d a ≡ product F d b → a ≡ b
+  cancel {d} {a} {b} hd ha hb n e =
+      equal-of-sum a b
+      (no-zero-divisors hd (sum-lt (F .width) ha hb) (product-sum F d a b ∙ ap (λ (x : ℕ). x ⊕ product F d b) e ∙ sum-self (product F d b)) n)

@@ -14,11 +14,11 @@ use Rattle.units.specs.Naming.{firstNamed}
 use Rattle.units.proofs.First.{first-before, first-named}
 use Rattle.units.proofs.Refusing.{not-both}
 use Rattle.field.specs.Field.{Element, _⊕_, product, power, α, order}
-use Rattle.field.proofs.Orders.{powers-distinct, power-not-zero, power-undone, no-zero-divisors}
+use Rattle.field.proofs.Orders.{powers-distinct, power-not-zero, power-undone, no-zero-divisors, cancel}
 use Rattle.field.proofs.Powers.{α-element, α-power, power-add}
 use Rattle.field.proofs.Products.{product-element, product-assoc, product-one}
-use Rattle.field.proofs.Reducing.{product-sum, zero-product}
-use Rattle.field.proofs.Sums.{sum-self, sum-zero, sum-undo, sum-lt, equal-of-sum}
+use Rattle.field.proofs.Reducing.{zero-product}
+use Rattle.field.proofs.Sums.{sum-zero, sum-undo, sum-lt}
 use Rattle.field.proofs.Tests.{formed}
 use Rattle.signature.specs.Kinds.{Kind}
 use Rattle.signature.specs.Objects.{Octets, symbol, symbols}
@@ -79,13 +79,6 @@ module _ (K : Kind) (sound : Sound K) (s : Signature) (page : List ℕ) (octets 
   handed-own : (object : List ℕ) (j : ℕ) → 0 < j → j ≤ s .n → handed (own K (s .n) object) j ≡ signature (K .field) (K .size) object j
   handed-own object j pos up =
       handed-answered (s .n) (signature (K .field) (K .size) object) j pos (le-trans up four) ∙ simp (le-leb j (s .n) up)
-
-  cancelled : {d a b : ℕ} → Element (K .field) d → Element (K .field) a → Element (K .field) b → d ≢ 0
-      → product (K .field) d a ≡ product (K .field) d b → a ≡ b
-  cancelled {d} {a} {b} hd ha hb n e =
-      equal-of-sum a b
-      (no-zero-divisors (K .field) (sound .passes) hd (sum-lt (K .field .width) ha hb)
-      (product-sum (K .field) d a b ∙ ap (λ (x : ℕ). x ⊕ product (K .field) d b) e ∙ sum-self (product (K .field) d b)) n)
 
   module _ (i x : ℕ) (inside : i < symbols (K .size) page) (f : Fitting K s page i x) where
     -- what the symbol differs by
@@ -150,7 +143,7 @@ module _ (K : Kind) (sound : Sound K) (s : Signature) (page : List ℕ) (octets 
         let low : p ≤ i = first-before named (symbols (K .size) page) 0 i (omega arith) reach (eq-eqb _ _ here) in
         let there : product (K .field) (off 1) (power (K .field) α p) ≡ off 2 = eqb-true _ _ (first-named named (symbols (K .size) page) 0 (omega arith)) in
         powers-distinct (K .field) (sound .passes) p i (omega arith) (omega arith)
-        (cancelled first-element (a-power p) (a-power i) first-not-zero (there ∙ sym here))
+        (cancel (K .field) (sound .passes) first-element (a-power p) (a-power i) first-not-zero (there ∙ sym here))
 
     pub value-named : valueFor i ≡ x
     value-named =

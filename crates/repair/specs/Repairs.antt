@@ -34,7 +34,8 @@ changeOf n page i x = record { position = record { count = i }; old = symbol 2 p
 -- the change that gives the signature s; there is at most one
 unfoldable pub put : Signature → List ℕ → Repair
 put s page =
-    cond (ltb (position wide s page) (symbols 2 page)) (Repaired (changeOf (s .n) page (position wide s page) (valueAt wide s page (position wide s page)))) Beyond
+    let i : ℕ = position wide s page in
+    cond (ltb i (symbols 2 page)) (Repaired (changeOf (s .n) page i (valueAt wide s page i))) Beyond
 
 -- a page by its entry; every entry of a map that was read has the tag 04, and one with another would make its page beyond, here
 unfoldable pub mended : Entry → List ℕ → Repair

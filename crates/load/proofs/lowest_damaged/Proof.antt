@@ -1,14 +1,13 @@
 -- `load::lowest_damaged` meets its contract. The invariant: the first damaged page of those left is the first of all.
 -- Assumes nothing.
-use mathlib.Core.Bool.{true, false, not}
 use mathlib.Core.Path.{_≡_, sym, ap, _∙_}
-use Prim.Native.Nat.{ℕ, suc, _+_, _-_}
-use native.Mathlib.Omega.{arith}
-use native.Mathlib.Numerals.{add-one}
+use mathlib.Core.Bool.{true, false, not}
+use Prim.Native.Nat.{ℕ, _+_, _-_}
 use native.Mathlib.Nat.{zero-add}
+use native.Mathlib.Omega.{arith}
 use borrow.Author.Needs.{needs}
 use Rattle.units.specs.Naming.{firstNamed}
-use Rattle.units.proofs.First.{first-none, first-here, first-later}
+use Rattle.units.proofs.First.{turn-finds, turn-goes-on, turn-ends}
 use Rattle.map.specs.Files.{pages}
 use Rattle.load.specs.Loads.{damaged, lowestDamaged}
 use Rattle.load.proofs.lowest_damaged.Statement.{statement}
@@ -35,9 +34,8 @@ returns : tie.Need-returns Inv-loop μ-loop
 returns c =
     let args : _ = c .before .before .before .before .before .before .before .args in
     let at : _ = c .before .before .before .loop in
-    let more : at .left ≡ suc (at .left - 1) = omega arith in
     let bad : damaged (args .h) (args .image .now) (args .map .now) (at .k) ≡ true = ap not (sym (c .before .whole .ensures)) ∙ c .if1 .taken in
-    sym (first-here _ (at .left - 1) (at .k) bad) ∙ sym (ap (λ (i : ℕ). firstNamed (damaged (args .h) (args .image .now) (args .map .now)) i (at .k)) more) ∙ at .inv .0
+    sym (turn-finds _ (at .left) (at .k) (omega arith) bad) ∙ at .inv .0
 
 add-k : tie.Need-add-k Inv-loop μ-loop
 add-k c = search needs
@@ -52,19 +50,13 @@ loop-again : tie.Need-loop-again Inv-loop μ-loop
 loop-again c =
     let args : _ = c .before .before .before .before .before .before .before .args in
     let at : _ = c .before .before .before .loop in
-    let more : at .left ≡ suc (at .left - 1) = omega arith in
-    let good : damaged (args .h) (args .image .now) (args .map .now) (at .k) ≡ false = ap not (sym (c .before .whole .ensures)) ∙ c .if1 .left in (
-      ap (firstNamed (damaged (args .h) (args .image .now) (args .map .now)) (at .left - 1)) (add-one (at .k)) ∙ sym (first-later _ (at .left - 1) (at .k) good)
-          ∙ sym (ap (λ (i : ℕ). firstNamed (damaged (args .h) (args .image .now) (args .map .now)) i (at .k)) more) ∙ at .inv .0,
-      omega (arith, at .inv .1),
-    )
+    let good : damaged (args .h) (args .image .now) (args .map .now) (at .k) ≡ false = ap not (sym (c .before .whole .ensures)) ∙ c .if1 .left in
+    (sym (turn-goes-on _ (at .left) (at .k) (omega arith) good) ∙ at .inv .0, omega (arith, at .inv .1))
 
 returns-2 : tie.Need-returns-2 Inv-loop μ-loop
 returns-2 c =
-    let args : _ = c .before .before .before .before .before .args in
     let at : _ = c .before .loop in
-    let none : at .left ≡ 0 = omega arith in
-    sym (first-none _ (at .k)) ∙ sym (ap (λ (i : ℕ). firstNamed (damaged (args .h) (args .image .now) (args .map .now)) i (at .k)) none) ∙ at .inv .0
+    sym (turn-ends _ (at .left) (at .k) (omega arith)) ∙ at .inv .0
 
 pub lowest-damaged-spec : {M : Type 1} → statement M
 lowest-damaged-spec =

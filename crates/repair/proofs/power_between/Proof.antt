@@ -2,14 +2,14 @@
 -- Assumes nothing.
 use mathlib.Core.Path.{_≡_, refl, sym, ap, _∙_}
 use mathlib.Core.Bool.{Bool, true, false}
-use Prim.Native.Nat.{ℕ, suc, _+_, _-_, _<_}
+use Prim.Native.Nat.{ℕ, _+_, _-_, _<_}
 use native.Mathlib.Nat.{zero-add}
 use native.Mathlib.Numerals.{add-one}
 use native.Mathlib.Omega.{arith}
 use lib.Dec.{eqb}
 use borrow.Author.Tests.{eq-eqb, ne-eqb}
 use Rattle.units.specs.Naming.{firstNamed}
-use Rattle.units.proofs.First.{first-none, first-here, first-later}
+use Rattle.units.proofs.First.{turn-finds, turn-goes-on, turn-ends}
 use Rattle.field.specs.Field.{GF16, product, power, doubled, α}
 use Rattle.field.proofs.Instances.{GF16-formed}
 use Rattle.field.proofs.Powers.{power-zero, power-doubled}
@@ -38,9 +38,8 @@ returns : tie.Need-returns Inv-loop μ-loop
 returns c =
     let args : _ = c .before .before .before .args in
     let at : _ = c .before .before .loop in
-    let more : suc (at .left - 1) ≡ at .left = omega arith in
     let so : makes (args .a) (args .b) (at .i) ≡ true = eq-eqb _ _ (sym (at .inv .0) ∙ c .if1 .taken) in
-    sym (first-here (makes (args .a) (args .b)) (at .left - 1) (at .i) so) ∙ ap (λ (n : ℕ). firstNamed (makes (args .a) (args .b)) n (at .i)) more ∙ at .inv .1
+    sym (turn-finds (makes (args .a) (args .b)) (at .left) (at .i) (omega arith) so) ∙ at .inv .1
 
 double-requires : tie.Need-double-requires Inv-loop μ-loop
 double-requires c κs = tt
@@ -58,7 +57,6 @@ loop-again : tie.Need-loop-again Inv-loop μ-loop
 loop-again c =
     let args : _ = c .before .before .before .before .args in
     let at : _ = c .before .before .before .loop in
-    let more : suc (at .left - 1) ≡ at .left = omega arith in
     let not-yet : makes (args .a) (args .b) (at .i) ≡ false = ne-eqb _ _ (λ e. c .before .if1 .left (at .inv .0 ∙ e)) in
     let below : args .a < 65536 = omega arith in (
       c .double .ensures
@@ -66,10 +64,7 @@ loop-again c =
           ∙ sym (product-doubled GF16 GF16-formed (power GF16 α (at .i)) below)
           ∙ power-doubled GF16 GF16-formed (at .i) below
           ∙ ap (λ (k : ℕ). product GF16 (args .a) (power GF16 α k)) (sym (add-one (at .i))),
-      ap (firstNamed (makes (args .a) (args .b)) (at .left - 1)) (add-one (at .i))
-          ∙ sym (first-later (makes (args .a) (args .b)) (at .left - 1) (at .i) not-yet)
-          ∙ ap (λ (n : ℕ). firstNamed (makes (args .a) (args .b)) n (at .i)) more
-          ∙ at .inv .1,
+      sym (turn-goes-on (makes (args .a) (args .b)) (at .left) (at .i) (omega arith) not-yet) ∙ at .inv .1,
       omega (arith, at .inv .2),
     )
 
@@ -77,8 +72,7 @@ returns-2 : tie.Need-returns-2 Inv-loop μ-loop
 returns-2 c =
     let args : _ = c .before .before .args in
     let at : _ = c .before .loop in
-    let none : at .left ≡ 0 = omega arith in
-    sym (first-none (makes (args .a) (args .b)) (at .i)) ∙ ap (λ (n : ℕ). firstNamed (makes (args .a) (args .b)) n (at .i)) (sym none) ∙ at .inv .1
+    sym (turn-ends (makes (args .a) (args .b)) (at .left) (at .i) (omega arith)) ∙ at .inv .1
 
 pub power-between-spec : {M : Type 1} → statement M
 power-between-spec =
