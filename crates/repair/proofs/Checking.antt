@@ -18,7 +18,7 @@ use Rattle.signature.specs.declared.Signature.{Signature}
 use Rattle.signature.proofs.EveryKind.{wide-sound, edit-of-page}
 use Rattle.signature.proofs.Numbers.{low-bytes-length}
 use Rattle.backup.specs.Backups.{same}
-use Rattle.repair.specs.Changes.{changed, fits}
+use Rattle.repair.specs.Changes.{Tells, changed, fits}
 use Rattle.repair.proofs.Changed.{changed-length, changed-octets, changed-edited}
 use Rattle.repair.proofs.Naming.{held}
 
@@ -40,9 +40,7 @@ same-signed s t e = cc
 -- x is to be symbol i of a page that holds it, and an edit of the page's own signature answered
 pub record Edits (s mine : Signature) (page : List ℕ) (i x : ℕ) (old new : List ℕ) (answer : Answer) : Type 0 where
   pub octets : Octets page
-  pub some : 2 ≤ s .n
-  pub four : s .n ≤ 4
-  pub short : symbols 2 page ≤ 65534
+  pub tells : Tells wide s page
   pub signed : mine ≡ own wide (s .n) page
   pub inside : i < symbols 2 page
   pub stays : eqb (symbol 2 (changed wide page i x) i) x ≡ true
@@ -56,7 +54,7 @@ module _ {s mine : Signature} {page : List ℕ} {i x : ℕ} {old new : List ℕ}
       q .edited
       ∙ ap (λ (t : Signature). editing wide t i old new) (q .signed)
       ∙ ap₂ (editing wide (own wide (s .n) page) i) (q .old-is) (q .new-is)
-      ∙ changed-signed (s .n) page i x (omega (arith, q .some)) (q .four) (q .short) (q .inside) (q .octets) (eqb-true _ _ (q .stays))
+      ∙ changed-signed (s .n) page i x (omega (arith, q .tells .some)) (q .tells .four) (q .tells .short) (q .inside) (q .octets) (eqb-true _ _ (q .stays))
 
   pub checked : (t : Signature) → answer ≡ Signed t → same t s ≡ fits wide s page i x
   checked t e = ap (λ (u : Signature). same u s) (same-signed t _ (sym e ∙ answered)) ∙ sym (held wide s page i x (q .stays))

@@ -19,7 +19,7 @@ use Rattle.signature.specs.Signatures.{handed}
 use Rattle.signature.specs.declared.Signature.{Signature}
 use Rattle.signature.proofs.EveryKind.{wide-sound}
 use Rattle.backup.specs.Backups.{same}
-use Rattle.repair.specs.Changes.{fits, values, valueAt, position}
+use Rattle.repair.specs.Changes.{Tells, fits, values, valueAt, position}
 use Rattle.repair.specs.Repairs.{changeOf, put}
 use Rattle.repair.specs.declared.Repair.the-variants.{Repaired, Beyond}
 use Rattle.repair.proofs.Naming.{fitting, named, valueFor, value-below, position-named, value-named}
@@ -69,9 +69,7 @@ module _ (s : Signature) (page : List ℕ) where
 -- a page of another signature than s; the two differences d and e, and the first of its m positions, i, that makes the one of the other
 pub record Sought (s mine : Signature) (page : List ℕ) (d e m i : ℕ) : Type 0 where
   pub octets : Octets page
-  pub some : 2 ≤ s .n
-  pub four : s .n ≤ 4
-  pub short : symbols 2 page ≤ 65534
+  pub tells : Tells wide s page
   pub signed : mine ≡ own wide (s .n) page
   pub wrong : same mine s ≡ false
   pub first-off : d ≡ mine .s1 ⊕ s .s1
@@ -80,9 +78,6 @@ pub record Sought (s mine : Signature) (page : List ℕ) (d e m i : ℕ) : Type 
   pub place-is : i ≡ firstNamed (λ k. eqb (product GF16 d (power GF16 α k)) e) m 0
 
 module _ {s mine : Signature} {page : List ℕ} {d e m i : ℕ} (q : Sought s mine page d e m i) where
-  within : symbols 2 page ≤ 65535
-  within = omega (arith, q .short)
-
   another : same (own wide (s .n) page) s ≡ false
   another = ap (λ (t : Signature). same t s) (sym (q .signed)) ∙ q .wrong
 
@@ -99,8 +94,8 @@ module _ {s mine : Signature} {page : List ℕ} {d e m i : ℕ} (q : Sought s mi
       (q .place-is
       ∙ ap (λ (z : ℕ). firstNamed (λ k. eqb (product GF16 z (power GF16 α k)) e) m 0) one-off
       ∙ ap (λ (z : ℕ). firstNamed (λ k. eqb (product GF16 (handed (own wide (s .n) page) 1 ⊕ s .s1) (power GF16 α k)) z) m 0) two-off
-      ∙ ap (λ (z : ℕ). firstNamed (named wide wide-sound s page (q .octets) (q .some) (q .four) within another) z 0) (q .count-is)
-      ∙ position-named wide wide-sound s page (q .octets) (q .some) (q .four) within another k y inside (fitting wide s page k y e′))
+      ∙ ap (λ (z : ℕ). firstNamed (named wide wide-sound s page (q .octets) (q .tells) another) z 0) (q .count-is)
+      ∙ position-named wide wide-sound s page (q .octets) (q .tells) another k y inside (fitting wide s page k y e′))
 
   pub find-past : m ≤ i → put s page ≡ Beyond
   find-past past = put-none s page (λ k y inside e′. let at : k ≡ i = placed k y inside e′ in omega (arith, q .count-is))
@@ -110,8 +105,8 @@ module _ {s mine : Signature} {page : List ℕ} {d e m i : ℕ} (q : Sought s mi
     only k y inside e′ =
         let at : k ≡ i = placed k y inside e′ in (
           at,
-          sym (value-named wide wide-sound s page (q .octets) (q .some) (q .four) within another k y inside (fitting wide s page k y e′))
-              ∙ ap (valueFor wide wide-sound s page (q .octets) (q .some) (q .four) within another) at
+          sym (value-named wide wide-sound s page (q .octets) (q .tells) another k y inside (fitting wide s page k y e′))
+              ∙ ap (valueFor wide wide-sound s page (q .octets) (q .tells) another) at
               ∙ ap (λ (z : ℕ). symbol 2 page i ⊕ product GF16 z (power GF16 α (65535 - i % 65535))) (sym one-off)
               ∙ sym x-is,
         )
@@ -127,4 +122,4 @@ module _ {s mine : Signature} {page : List ℕ} {d e m i : ℕ} (q : Sought s mi
     find-one below fit =
         let inside : i < symbols 2 page = omega (arith, q .count-is) in
         put-found s page i x inside
-        (value-below wide wide-sound s page (q .octets) (q .some) (q .four) within another i x inside (fitting wide s page i x fit)) fit only
+        (value-below wide wide-sound s page (q .octets) (q .tells) another i x inside (fitting wide s page i x fit)) fit only

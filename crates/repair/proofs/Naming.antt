@@ -31,7 +31,7 @@ use Rattle.signature.proofs.Octets.{symbol-element}
 use Rattle.map.proofs.Fields.{halves}
 use Rattle.backup.specs.Backups.{same}
 use Rattle.backup.proofs.Sameness.{same-is, is-same}
-use Rattle.repair.specs.Changes.{changed, fits}
+use Rattle.repair.specs.Changes.{Tells, changed, fits}
 use Rattle.repair.proofs.Changed.{changed-small, changed-signature}
 
 module _ (K : Kind) (s : Signature) (page : List ℕ) where
@@ -59,8 +59,8 @@ module _ (K : Kind) (s : Signature) (page : List ℕ) where
   unfolding fits
   fits-when i x f = simp (eq-eqb _ _ (f .holds), is-same _ _ (f .gives))
 
-module _ (K : Kind) (sound : Sound K) (s : Signature) (page : List ℕ) (octets : Octets page) (some : 2 ≤ s .n) (four : s .n ≤ 4)
-    (short : symbols (K .size) page ≤ order (K .field)) (wrong : same (own K (s .n) page) s ≡ false) where
+module _ (K : Kind) (sound : Sound K) (s : Signature) (page : List ℕ) (octets : Octets page) (tells : Tells K s page)
+    (wrong : same (own K (s .n) page) s ≡ false) where
   -- by how much component j is off
   abbrev pub off : ℕ → ℕ
   off j = handed (own K (s .n) page) j ⊕ handed s j
@@ -78,7 +78,7 @@ module _ (K : Kind) (sound : Sound K) (s : Signature) (page : List ℕ) (octets 
 
   handed-own : (object : List ℕ) (j : ℕ) → 0 < j → j ≤ s .n → handed (own K (s .n) object) j ≡ signature (K .field) (K .size) object j
   handed-own object j pos up =
-      handed-answered (s .n) (signature (K .field) (K .size) object) j pos (le-trans up four) ∙ simp (le-leb j (s .n) up)
+      handed-answered (s .n) (signature (K .field) (K .size) object) j pos (le-trans up (tells .four)) ∙ simp (le-leb j (s .n) up)
 
   module _ (i x : ℕ) (inside : i < symbols (K .size) page) (f : Fitting K s page i x) where
     -- what the symbol differs by
@@ -111,7 +111,7 @@ module _ (K : Kind) (sound : Sound K) (s : Signature) (page : List ℕ) (octets 
         not-both (same (own K (s .n) page) s) (is-same _ _ (sym (answered-same (s .n) _ _ still) ∙ f .gives)) wrong
 
     first-off : off 1 ≡ product (K .field) δ (power (K .field) α i)
-    first-off = off-by 1 (omega arith) (omega arith) ∙ ap (λ (k : ℕ). product (K .field) δ (power (K .field) α k)) (one-mul i)
+    first-off = off-by 1 (omega arith) (omega (arith, tells .some)) ∙ ap (λ (k : ℕ). product (K .field) δ (power (K .field) α k)) (one-mul i)
 
     first-not-zero : off 1 ≢ 0
     first-not-zero e =
@@ -134,7 +134,7 @@ module _ (K : Kind) (sound : Sound K) (s : Signature) (page : List ℕ) (octets 
         by-power i
         ∙ ap (product (K .field) δ)
         (sym (power-add (K .field) (formed (K .field) (sound .passes)) i i (α-element (K .field) (formed (K .field) (sound .passes)))) ∙ ap (power (K .field) α) twice)
-        ∙ sym (off-by 2 (omega arith) some)
+        ∙ sym (off-by 2 (omega arith) (tells .some))
 
     pub position-named : firstNamed named (symbols (K .size) page) 0 ≡ i
     position-named =
@@ -142,7 +142,7 @@ module _ (K : Kind) (sound : Sound K) (s : Signature) (page : List ℕ) (octets 
         let reach : i < 0 + symbols (K .size) page = omega arith in
         let low : p ≤ i = first-before named (symbols (K .size) page) 0 i (omega arith) reach (eq-eqb _ _ here) in
         let there : product (K .field) (off 1) (power (K .field) α p) ≡ off 2 = eqb-true _ _ (first-named named (symbols (K .size) page) 0 (omega arith)) in
-        powers-distinct (K .field) (sound .passes) p i (omega arith) (omega arith)
+        powers-distinct (K .field) (sound .passes) p i (omega (arith, tells .short, sound .short)) (omega (arith, tells .short, sound .short))
         (cancel (K .field) (sound .passes) first-element (a-power p) (a-power i) first-not-zero (there ∙ sym here))
 
     pub value-named : valueFor i ≡ x

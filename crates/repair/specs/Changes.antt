@@ -1,7 +1,7 @@
 -- A page with one symbol changed, and which change gives it the signature that its entry holds.
 use mathlib.Core.Bool.{Bool, _&&_}
 use mathlib.Core.List.{List}
-use Prim.Native.Nat.{ℕ, _-_, _*_, _^_}
+use Prim.Native.Nat.{ℕ, _-_, _*_, _^_, _≤_}
 use lib.Dec.{eqb, ltb}
 use lib.ListN.{length, take}
 use Rattle.units.specs.Naming.{firstNamed}
@@ -13,6 +13,12 @@ use Rattle.signature.specs.declared.Signature.{Signature}
 use Rattle.backup.specs.Backups.{same}
 
 module _ (K : Kind) where
+  -- enough components to tell a position, and a page in which they do
+  pub record Tells (s : Signature) (page : List ℕ) : Type 0 where
+    pub some : 2 ≤ s .n
+    pub four : s .n ≤ 4
+    pub short : symbols (K .size) page ≤ K .most
+
   -- x in the place of symbol i; of a last symbol that was completed, the bytes that the page has
   unfoldable pub changed : List ℕ → ℕ → ℕ → List ℕ
   changed page i x = written page (i * K .size) (take (length page - i * K .size) (lowBytes (K .size) x))

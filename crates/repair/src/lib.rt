@@ -1,7 +1,7 @@
 // Repair: a page of the image with one damaged symbol is put right from its map entry.
 ghost use mathlib.Core.Path.{_≡_};
 ghost use mathlib.Core.Bool.{false};
-ghost use Prim.Native.Nat.{_≤_, _<_};
+ghost use Prim.Native.Nat.{_<_};
 ghost use lib.Dec.{eqb};
 ghost use lib.ListN.{length};
 ghost use Rattle.units.specs.Naming.{firstNamed};
@@ -13,7 +13,7 @@ ghost use Rattle.signature.specs.Operations.{own as Object·own};
 ghost use Rattle.map.specs.Reading.{reading};
 ghost use Rattle.map.specs.declared.Reading.the-variants.{Holds};
 ghost use Rattle.backup.specs.Backups.{same};
-ghost use Rattle.repair.specs.Changes.{changed, fits as Change·fits};
+ghost use Rattle.repair.specs.Changes.{Tells, changed, fits as Change·fits};
 ghost use Rattle.repair.specs.Repairs.{put as Page·put, mended as Page·mended, pageLeft, outcomeOf, openRepair, repairing};
 use backup::Opening;
 use map::Entry;
@@ -78,7 +78,7 @@ fn refused(number: u32) -> Repair
 
 // A page by its entry.
 fn mend(entry: Entry, page: &mut [u8]) -> Repair
-    requires { ⌜ (2 ≤ entry .signature .n) × (entry .signature .n ≤ 4) × (Object·symbols 2 (now page) ≤ 65534) ⌝ }
+    requires { ⌜ Tells wide (entry .signature) (now page) ⌝ }
     ensures { λ r. ⌜ (r ≡ Page·mended entry (now (page .entry))) × (now (page .exit) ≡ pageLeft r (now (page .entry))) ⌝ }
 {
     let repair = diagnose(entry, page);
@@ -91,7 +91,7 @@ fn mend(entry: Entry, page: &mut [u8]) -> Repair
 
 // What is wrong with a page. Every entry that was read has the tag 04; one with another tag would make its page beyond, here and nowhere else.
 fn diagnose(entry: Entry, page: &[u8]) -> Repair
-    requires { ⌜ (2 ≤ entry .signature .n) × (entry .signature .n ≤ 4) × (Object·symbols 2 (now page) ≤ 65534) ⌝ }
+    requires { ⌜ Tells wide (entry .signature) (now page) ⌝ }
     ensures { λ r. ⌜ r ≡ Page·mended entry (now (page .entry)) ⌝ }
 {
     let s = entry.signature;
@@ -104,7 +104,7 @@ fn diagnose(entry: Entry, page: &[u8]) -> Repair
 
 // How the first two components differ names one position and one value there. Whether that fits, the signature of the page changed so decides.
 fn find(s: Signature, own: Signature, page: &[u8]) -> Repair
-    requires { ⌜ (2 ≤ s .n) × (s .n ≤ 4) × (Object·symbols 2 (now page) ≤ 65534) × (own ≡ Object·own wide (s .n) (now page)) × (same own s ≡ false) ⌝ }
+    requires { ⌜ Tells wide s (now page) × (own ≡ Object·own wide (s .n) (now page)) × (same own s ≡ false) ⌝ }
     ensures { λ r. ⌜ r ≡ Page·put s (now (page .entry)) ⌝ }
 {
     let d = field::sum(own.s1, s.s1);
@@ -147,7 +147,7 @@ fn power_between(a: u16, b: u16, m: usize) -> usize
 
 // Whether x in the place of symbol i gives the page the signature s.
 fn fits(s: Signature, own: Signature, page: &[u8], i: Symbols, x: u16) -> bool
-    requires { ⌜ (2 ≤ s .n) × (s .n ≤ 4) × (Object·symbols 2 (now page) ≤ 65534) × (own ≡ Object·own wide (s .n) (now page)) × (i .count < Object·symbols 2 (now page)) ⌝ }
+    requires { ⌜ Tells wide s (now page) × (own ≡ Object·own wide (s .n) (now page)) × (i .count < Object·symbols 2 (now page)) ⌝ }
     ensures { λ r. ⌜ r ≡ Change·fits wide s (now (page .entry)) (i .count) x ⌝ }
 {
     if !stays(page, i, x) {

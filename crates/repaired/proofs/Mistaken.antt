@@ -63,7 +63,7 @@ unfolding symbol lowFirst
 taken-for-one =
     mended-else entry damaged wrong
     ∙ put-found (own wide 2 zeros) damaged 2 1 (omega arith) (omega arith) fit
-    (λ k y inside e. one-change wide wide-sound (own wide 2 zeros) damaged octets (omega arith) (omega arith) (omega arith) wrong k y 2 1 inside (omega arith) e fit)
+    (λ k y inside e. one-change wide wide-sound (own wide 2 zeros) damaged octets (record { some = omega arith; four = omega arith; short = omega arith }) wrong k y 2 1 inside (omega arith) e fit)
 
 -- the page then passes as whole
 pub mistaken-page : pageLeft (mended entry damaged) damaged ≡ 8 ∷ 0 ∷ 6 ∷ 0 ∷ 1 ∷ 0 ∷ []

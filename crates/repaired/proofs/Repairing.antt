@@ -31,7 +31,7 @@ use Rattle.backup.proofs.Bounds.{page-starts}
 use Rattle.backup.proofs.Opened.{Usable, holds-usable}
 use Rattle.backup.proofs.Pages.{page-length, page-here}
 use Rattle.backup.proofs.Sameness.{is-agrees}
-use Rattle.repair.specs.Changes.{changed, fits}
+use Rattle.repair.specs.Changes.{Tells, changed, fits}
 use Rattle.repair.specs.Repairs.{Outcome, changeOf, put, mended, pageLeft, outcomeOf, pageTests, imageLeft, unless, openRepair, repairing}
 use Rattle.repair.specs.declared.Change.{Change}
 use Rattle.repair.specs.declared.Repair.{Repair}
@@ -64,6 +64,10 @@ module _ (h : Header) (image map : List ℕ) (k : ℕ) (o : Open h image map k) 
 
   short : symbols 2 page ≤ 65534
   short = omega (arith, page-most (h .page .count) (sized .page-fits), size)
+
+  tells : Tells wide (entry .signature) page
+  unfolding entryAt
+  tells = record { some = o .two; four = four; short = short }
 
   octets : Octets page
   octets = page-octets (h .page .count) image k (o .octets)
@@ -208,15 +212,15 @@ module _ (h : Header) (image map : List ℕ) (k : ℕ) (o : Open h image map k) 
             changeOf (h .n) page i x,
             ap (λ (q : Outcome). q .answer) answers
                 ∙ mended-else entry page so
-                ∙ put-found (entry .signature) page i x inside (value-below wide wide-sound (entry .signature) page octets (o .two) four (omega (arith, short)) so i x inside f) e
-                (λ j y hj e′. one-change wide wide-sound (entry .signature) page octets (o .two) four (omega (arith, short)) so j y i x hj inside e′ e),
+                ∙ put-found (entry .signature) page i x inside (value-below wide wide-sound (entry .signature) page octets tells so i x inside f) e
+                (λ j y hj e′. one-change wide wide-sound (entry .signature) page octets tells so j y i x hj inside e′ e),
           )
 
   -- and there is only one such change
   pub only-change : agrees h (entryAt (h .n) map) image k ≡ false → (i x j y : ℕ) → i < symbols 2 page → j < symbols 2 page
       → fits wide (entry .signature) page i x ≡ true → fits wide (entry .signature) page j y ≡ true → (i ≡ j) × (x ≡ y)
   unfolding agrees entryAt
-  only-change so = one-change wide wide-sound (entry .signature) page octets (o .two) four (omega (arith, short)) so
+  only-change so = one-change wide wide-sound (entry .signature) page octets tells so
 
   -- ---- with an intact entry
 
@@ -226,10 +230,10 @@ module _ (h : Header) (image map : List ℕ) (k : ℕ) (o : Open h image map k) 
         → ((c : Change) × (repairing image map k .answer ≡ Repaired c)) × (pageAt (h .page .count) (repairing image map k .image) k ≡ before)
     unfolding entryAt
     one-restored one =
-        let r : Restored (entry .signature) page before octets (t .octets) (t .as-long) (o .two) four short (t .entry) =
-        one-damaged (entry .signature) page before octets (t .octets) (t .as-long) (o .two) four short (t .entry) one in
+        let r : Restored (entry .signature) page before octets (t .octets) (t .as-long) tells (t .entry) =
+        one-damaged (entry .signature) page before octets (t .octets) (t .as-long) tells (t .entry) one in
         let so : same (own wide (h .n) page) (entry .signature) ≡ false =
-        another (entry .signature) page before octets (t .octets) (t .as-long) (o .two) four short (t .entry) (omega arith) (omega (arith, o .two)) in
+        another (entry .signature) page before octets (t .octets) (t .as-long) tells (t .entry) (omega arith) (omega (arith, o .two)) in
         let c : Change = changeOf (h .n) page (r .position) (symbol 2 before (r .position)) in
         let is : repairing image map k .answer ≡ Repaired c = ap (λ (q : Outcome). q .answer) answers ∙ mended-else entry page so ∙ r .answer in
         ((c, is), page-after c is ∙ r .page-is)
@@ -239,5 +243,5 @@ module _ (h : Header) (image map : List ℕ) (k : ℕ) (o : Open h image map k) 
     unfolding entryAt pageLeft
     more-damaged some few =
         let so : same (own wide (h .n) page) (entry .signature) ≡ false =
-        another (entry .signature) page before octets (t .octets) (t .as-long) (o .two) four short (t .entry) (omega arith) (omega arith) in
-        unchanged Beyond refl (mended-else entry page so ∙ more-beyond (entry .signature) page before octets (t .octets) (t .as-long) (o .two) four short (t .entry) some few)
+        another (entry .signature) page before octets (t .octets) (t .as-long) tells (t .entry) (omega arith) (omega arith) in
+        unchanged Beyond refl (mended-else entry page so ∙ more-beyond (entry .signature) page before octets (t .octets) (t .as-long) tells (t .entry) some few)

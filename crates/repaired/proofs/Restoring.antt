@@ -24,7 +24,7 @@ use Rattle.signature.proofs.Numbers.{two-bytes}
 use Rattle.signature.proofs.Octets.{low-first-lt}
 use Rattle.backup.specs.Backups.{same}
 use Rattle.backup.proofs.Sameness.{same-is}
-use Rattle.repair.specs.Changes.{changed, fits}
+use Rattle.repair.specs.Changes.{Tells, changed, fits}
 use Rattle.repair.specs.Repairs.{changeOf, put}
 use Rattle.repair.specs.declared.Repair.the-variants.{Repaired, Beyond}
 use Rattle.repair.proofs.Changed.{changed-length, changed-octets, changed-other, both-bytes, low-byte}
@@ -32,7 +32,7 @@ use Rattle.repair.proofs.Finding.{put-found, put-none}
 use Rattle.repair.proofs.Naming.{Fitting, fitting, fits-when, one-change, value-below}
 
 module _ (s : Signature) (page before : List ℕ) (page-octets : Octets page) (before-octets : Octets before) (lengths : length page ≡ length before)
-    (two : 2 ≤ s .n) (four : s .n ≤ 4) (short : symbols 2 page ≤ 65534) (entry : s ≡ own wide (s .n) before) where
+    (tells : Tells wide s page) (entry : s ≡ own wide (s .n) before) where
   -- symbol i is another
   abbrev other : ℕ → Bool
   other i = not (eqb (symbol 2 page i) (symbol 2 before i))
@@ -41,7 +41,7 @@ module _ (s : Signature) (page before : List ℕ) (page-octets : Octets page) (b
   another some few = at (same (own wide (s .n) page) s) refl
     where
       at : (b : Bool) → same (own wide (s .n) page) s ≡ b → b ≡ false
-      at true e = absurd (own-apart wide wide-sound (s .n) four page before page-octets before-octets lengths short some few (same-is _ _ e ∙ entry))
+      at true e = absurd (own-apart wide wide-sound (s .n) (tells .four) page before page-octets before-octets lengths (tells .short) some few (same-is _ _ e ∙ entry))
       at false e = refl
 
   -- what stood there fits there
@@ -90,15 +90,15 @@ module _ (s : Signature) (page before : List ℕ) (page-octets : Octets page) (b
   one-damaged one =
       let lone : Lone (symbols 2 page) other = count-one (symbols 2 page) other one in
       let i : ℕ = lone .place in
-      let wrong : same (own wide (s .n) page) s ≡ false = another (omega arith) (omega arith) in
+      let wrong : same (own wide (s .n) page) s ≡ false = another (omega arith) (omega (arith, tells .some)) in
       let is : changed wide page i (symbol 2 before i) ≡ before = put-right i (lone .below) (lone .no-other) in
       let f : Fitting wide s page i (symbol 2 before i) = record { holds = stood i (lone .below); gives = ap (own wide (s .n)) is ∙ sym entry } in
       let fit : fits wide s page i (symbol 2 before i) ≡ true = fits-when wide s page i (symbol 2 before i) f in
       record {
         position = i;
         answer = put-found s page i (symbol 2 before i) (lone .below)
-            (value-below wide wide-sound s page page-octets two four (omega arith) wrong i (symbol 2 before i) (lone .below) f) fit
-            (λ k y h e. one-change wide wide-sound s page page-octets two four (omega arith) wrong k y i (symbol 2 before i) h (lone .below) e fit);
+            (value-below wide wide-sound s page page-octets tells wrong i (symbol 2 before i) (lone .below) f) fit
+            (λ k y h e. one-change wide wide-sound s page page-octets tells wrong k y i (symbol 2 before i) h (lone .below) e fit);
         page-is = is;
       }
 
@@ -128,8 +128,8 @@ module _ (s : Signature) (page before : List ℕ) (page-octets : Octets page) (b
 
     same-page : differing 2 page before < s .n → Fitting wide s page k y → changed wide page k y ≡ before
     same-page few f =
-        own-tells wide wide-sound (s .n) four (changed wide page k y) before (changed-octets wide wide-sound page k y inside page-octets) before-octets
-        (changed-length wide wide-sound page k y inside ∙ lengths) (omega (arith, changed-length wide wide-sound page k y inside)) (omega (arith, one-more))
+        own-tells wide wide-sound (s .n) (tells .four) (changed wide page k y) before (changed-octets wide wide-sound page k y inside page-octets) before-octets
+        (changed-length wide wide-sound page k y inside ∙ lengths) (omega (arith, changed-length wide wide-sound page k y inside, tells .short)) (omega (arith, one-more))
         (f .gives ∙ entry)
 
   pub more-beyond : 2 ≤ differing 2 page before → differing 2 page before < s .n → put s page ≡ Beyond

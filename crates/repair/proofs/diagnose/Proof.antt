@@ -23,8 +23,7 @@ returns c =
 
 find-requires : tie.Need-find-requires
 find-requires c κs =
-    let (some, four, short) = c .before .before .before .before .before .pre in
-    (some, four, short, c .before .before .own .ensures, sym (c .before .same .ensures) ∙ c .if1 .left)
+    (c .before .before .before .before .before .pre, c .before .before .own .ensures, sym (c .before .same .ensures) ∙ c .if1 .left)
 
 returns-2 : tie.Need-returns-2
 returns-2 c =

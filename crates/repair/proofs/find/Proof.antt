@@ -21,12 +21,10 @@ sought : (c : tie.After-power-between)
     → Sought (start c .args .s) (start c .args .own) (start c .args .page .now) (c .before .before .before .sum .result) (c .before .sum2 .result)
     (c .before .before .symbols-in .result .count) (c .power-between .result)
 sought c =
-    let (some, four, short, signed, wrong) = start c .pre in
+    let (tells, signed, wrong) = start c .pre in
     record {
       octets = λ k. c .before .before .before .before .shared-slice-known .given k .fits;
-      some = some;
-      four = four;
-      short = short;
+      tells = tells;
       signed = signed;
       wrong = wrong;
       first-off = c .before .before .before .sum .ensures;
@@ -81,7 +79,7 @@ sum-requires-3 c κs = search needs
 fits-requires : tie.Need-fits-requires
 fits-requires c κs =
     let q : _ = sought (c .before .before .before .before .before) in
-    (q .some, q .four, q .short, q .signed, omega (arith, q .count-is))
+    (q .tells, q .signed, omega (arith, q .count-is))
 
 returns-2 : tie.Need-returns-2
 returns-2 c = sym (find-none (sought (between (c .before))) _ (value (c .before)) (sym (c .before .fits2 .ensures) ∙ not-true _ (c .if2 .taken)))

@@ -18,12 +18,10 @@ edits : (c : tie.After-edit)
     → Edits (start c .args .s) (start c .args .own) (start c .args .page .now) (start c .args .i .count) (start c .args .x)
     (c .before .before .before .before .low-bytes .result) (c .before .before .before .low-bytes2 .result) (c .edit .result)
 edits c =
-    let (some, four, short, signed, inside) = start c .pre in
+    let (tells, signed, inside) = start c .pre in
     record {
       octets = λ k. c .before .before .before .before .before .before .before .before .shared-slice-known .given k .fits;
-      some = some;
-      four = four;
-      short = short;
+      tells = tells;
       signed = signed;
       inside = inside;
       stays = sym (c .before .before .before .before .before .before .before .stays .ensures) ∙ not-false _ (c .before .before .before .before .before .before .if1 .left);

@@ -81,7 +81,7 @@ unfolding entryAt
 mend-requires c κs =
     let q : _ = lent (c .before) in
     let n : _ = ap (λ (e : Entry). e .signature .n) (c .before .before .before .before .entry-at .ensures) in
-    (omega (arith, n, c .before .before .before .before .before .if2 .left), omega (arith, n, lent-four q), lent-short q)
+    record { some = omega (arith, n, c .before .before .before .before .before .if2 .left); four = omega (arith, n, lent-four q); short = lent-short q }
 
 same-length : tie.Need-same-length
 same-length c = search needs
