@@ -1,5 +1,5 @@
-//! Compares two programs for the scope's rules, call by call: the library through its C interface, and the second
-//! program.
+//! Compares two programs for the scope's rules, call by call: the library, through its C interface and through its Rust
+//! interface, and the second program.
 
 pub mod call;
 pub mod dice;
@@ -12,15 +12,24 @@ pub mod part;
 pub mod run;
 pub mod second_program;
 pub mod shrink;
+pub mod told;
+pub mod wrapper;
 
-use call::{common_outcome, Call, Outcome};
+use call::{common_outcome, Call, Outcome, Program};
 use hunt::Case;
 use library::Library;
 use second_program::Second;
+use wrapper::Wrapper;
 
-/// What both programs make of a call; if they differ, the test fails with the smallest call on which they do.
+/// What both programs make of a call, the library through either of its interfaces; if they differ, the test fails with the
+/// smallest call on which they do.
 pub fn both(call: &Call) -> Outcome {
-    common_outcome(&Library, &Second, call).unwrap_or_else(|_| panic!("{}", Case::Call(call.clone()).smallest(&Library, &Second)))
+    agreed(&Wrapper, call);
+    agreed(&Library, call)
+}
+
+fn agreed(library: &dyn Program, call: &Call) -> Outcome {
+    common_outcome(library, &Second, call).unwrap_or_else(|_| panic!("{}", Case::Call(call.clone()).smallest(library, &Second)))
 }
 
 /// Has both programs turn down a call with this number and value.

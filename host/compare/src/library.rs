@@ -2,67 +2,18 @@
 
 use crate::call::{Call, Outcome, Program};
 use crate::memory::Loan;
+use cotelark_sys::*;
 
-// One function a line or two, as in the header.
-#[rustfmt::skip]
-extern "C" {
-    fn cotelark_sign(n: usize, object: *const u8, object_bytes: usize, signature: *mut u16) -> u32;
-    fn cotelark_join(first_n: usize, first: *const u16, first_symbols: usize,
-        second_n: usize, second: *const u16, second_symbols: usize, joined: *mut u16) -> u32;
-    fn cotelark_edit(n: usize, signature: *const u16, at_symbol: usize, old_piece: *const u8, old_bytes: usize,
-        new_piece: *const u8, new_bytes: usize, edited: *mut u16) -> u32;
-    fn cotelark_make_map(n: usize, page_bytes: usize, bucket: *const u8, bucket_bytes: usize,
-        output: *mut u8, output_bytes: usize, value: *mut usize) -> u32;
-    fn cotelark_read_map(map: *const u8, map_bytes: usize, n: *mut usize, page_bytes: *mut usize,
-        bucket_bytes: *mut usize, pages: *mut usize, value: *mut usize) -> u32;
-    fn cotelark_list_map(map: *const u8, map_bytes: usize, output: *mut u8, output_bytes: usize, value: *mut usize)
-        -> u32;
-    fn cotelark_store(table: *const u8, table_bytes: usize, image: *mut u8, image_bytes: usize,
-        map: *mut u8, map_bytes: usize, list: *mut usize, list_numbers: usize, value: *mut usize) -> u32;
-    fn cotelark_step(place: *mut usize, table: *const u8, table_bytes: usize, image: *mut u8, image_bytes: usize,
-        map: *mut u8, map_bytes: usize, answer: *mut u32, value: *mut usize) -> u32;
-    fn cotelark_load_page(image: *const u8, image_bytes: usize, map: *const u8, map_bytes: usize, page: usize,
-        start: *mut usize, bytes: *mut usize, value: *mut usize) -> u32;
-    fn cotelark_ask_page(image: *const u8, image_bytes: usize, map: *const u8, map_bytes: usize, page: usize,
-        value: *mut usize) -> u32;
-    fn cotelark_load_bucket(image: *const u8, image_bytes: usize, map: *const u8, map_bytes: usize,
-        table: *mut u8, table_bytes: usize, value: *mut usize) -> u32;
-    fn cotelark_repair_page(image: *mut u8, image_bytes: usize, map: *const u8, map_bytes: usize, page: usize,
-        answer: *mut u32, position: *mut usize, old_symbol: *mut u16, new_symbol: *mut u16, marked: *mut u32,
-        value: *mut usize) -> u32;
-    fn cotelark_encode(plain: *const u8, plain_bytes: usize, output: *mut u8, output_bytes: usize, value: *mut usize)
-        -> u32;
-    fn cotelark_decode(code: *const u8, code_bytes: usize, output: *mut u8, output_bytes: usize, value: *mut usize)
-        -> u32;
-    fn cotelark_search(code: *const u8, code_bytes: usize, pattern: *const u8, pattern_bytes: usize,
-        list: *mut usize, list_numbers: usize, value: *mut usize) -> u32;
-}
+pub use cotelark_sys::{
+    COTELARK_DAMAGED as DAMAGED, COTELARK_EMPTY as EMPTY, COTELARK_LONG as LONG, COTELARK_MAP as MAP, COTELARK_MATCH as MATCH, COTELARK_ODD as ODD,
+    COTELARK_PAGE as PAGE, COTELARK_PAGENO as PAGENO, COTELARK_ROOM as ROOM, COTELARK_SIZE as SIZE, COTELARK_THIN as THIN,
+};
+pub use cotelark_sys::{COTELARK_REPAIR_BEYOND as BEYOND, COTELARK_REPAIR_REPAIRED as REPAIRED, COTELARK_REPAIR_WHOLE as WHOLE};
+pub use cotelark_sys::{COTELARK_STEP_FINISHED as FINISHED, COTELARK_STEP_KEPT as KEPT, COTELARK_STEP_WRITTEN as WRITTEN};
 
-/// The header's numbers of the refusals.
-pub const SIZE: u32 = 1;
-pub const PAGE: u32 = 2;
-pub const LONG: u32 = 3;
-pub const ODD: u32 = 4;
-pub const MAP: u32 = 5;
-pub const MATCH: u32 = 6;
-pub const ROOM: u32 = 7;
-pub const EMPTY: u32 = 8;
-pub const PAGENO: u32 = 9;
-pub const DAMAGED: u32 = 10;
-pub const THIN: u32 = 14;
-
-/// The header's number of the answer of a refused step, and of a refused repair.
+/// The answer of a refused step, and of a refused repair.
 pub const REFUSED: u32 = 0;
-
-/// The header's numbers of a step's answers.
-pub const KEPT: u32 = 1;
-pub const WRITTEN: u32 = 2;
-pub const FINISHED: u32 = 3;
-
-/// The header's numbers of a repair's answers.
-pub const WHOLE: u32 = 1;
-pub const REPAIRED: u32 = 2;
-pub const BEYOND: u32 = 3;
+const _: () = assert!(REFUSED == COTELARK_STEP_REFUSED && REFUSED == COTELARK_REPAIR_REFUSED);
 
 /// Writes out a C call: a `number` is handed over by value, a `pointer` alone, a `buffer` as pointer and length.
 macro_rules! c_call {

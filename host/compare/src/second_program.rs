@@ -2,6 +2,7 @@
 
 use crate::call::{Call, Outcome, Program};
 use crate::library::{BEYOND, FINISHED, KEPT, REFUSED, REPAIRED, WHOLE, WRITTEN};
+use crate::told::{put, tell, TurnedDown};
 use second::{Refusal, Repair, Signature, Step};
 
 /// The second program.
@@ -21,15 +22,15 @@ impl Program for Second {
 
 fn carry_out(call: &mut Call) -> u32 {
     match call {
-        Call::Sign { n, object, signature } => put(signature, second::sign(*n, object)),
+        Call::Sign { n, object, signature } => put(signature, second::sign(*n, object).map(components)),
         Call::Join { first_n, first, first_symbols, second_n, second, second_symbols, joined } => {
             let first = Signature { n: *first_n, components: *first };
             let second = Signature { n: *second_n, components: *second };
-            put(joined, second::join(&first, *first_symbols, &second, *second_symbols))
+            put(joined, second::join(&first, *first_symbols, &second, *second_symbols).map(components))
         }
         Call::Edit { n, signature, at_symbol, old_piece, new_piece, edited } => {
             let signature = Signature { n: *n, components: *signature };
-            put(edited, second::edit(&signature, *at_symbol, old_piece, new_piece))
+            put(edited, second::edit(&signature, *at_symbol, old_piece, new_piece).map(components))
         }
         Call::MakeMap { n, page_bytes, bucket, output, value } => {
             tell([value], second::make_map(*n, *page_bytes, bucket, output).map(|bytes| [bytes]))
@@ -58,27 +59,18 @@ fn carry_out(call: &mut Call) -> u32 {
     }
 }
 
-/// Puts a signature where it goes; a refused call leaves that as it was.
-fn put(signature: &mut [u16; 4], answer: Result<Signature, Refusal>) -> u32 {
-    match answer {
-        Ok(answer) => {
-            *signature = answer.components;
-            0
-        }
-        Err(refusal) => refusal.number,
+impl TurnedDown for Refusal {
+    fn number(&self) -> u32 {
+        self.number
+    }
+
+    fn value(&self) -> u64 {
+        self.value
     }
 }
 
-/// Writes the numbers told, `value` first; of a refusal its value, and zeros.
-fn tell<const COUNT: usize>(told: [&mut u64; COUNT], answer: Result<[u64; COUNT], Refusal>) -> u32 {
-    let (status, numbers) = match answer {
-        Ok(numbers) => (0, numbers),
-        Err(refusal) => (refusal.number, std::array::from_fn(|index| if index == 0 { refusal.value } else { 0 })),
-    };
-    for (place, number) in told.into_iter().zip(numbers) {
-        *place = number;
-    }
-    status
+fn components(signature: Signature) -> [u16; 4] {
+    signature.components
 }
 
 fn tell_step(answer: &mut u32, value: &mut u64, step: Result<Step, Refusal>) -> u32 {

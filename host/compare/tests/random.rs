@@ -5,6 +5,7 @@ use compare::hunt::hunt;
 use compare::library::Library;
 use compare::run::{difference_in_run, Act, Kind, Run};
 use compare::second_program::Second;
+use compare::wrapper::Wrapper;
 use compare::{handed, signature};
 use std::process::Command;
 
@@ -14,6 +15,13 @@ const CASES: u64 = 1_000_000;
 #[test]
 fn random_cases() {
     if let Some(finding) = hunt(&Library, &Second, 2_004, 0..CASES) {
+        panic!("{finding}");
+    }
+}
+
+#[test]
+fn random_cases_through_the_rust_interface() {
+    if let Some(finding) = hunt(&Wrapper, &Second, 2_026, 0..CASES / 4) {
         panic!("{finding}");
     }
 }
