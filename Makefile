@@ -1,22 +1,19 @@
 # make demo: the library at work.   make test: everything that is promised, proved and run from nothing.   make fuzz: the library against the second
-# program, until they differ.
-.PHONY: demo test fuzz kit archive
+# program, until they differ.   make command: the command cotelark, target/cargo/release/cotelark.
+.PHONY: demo test fuzz command kit archive
 
 # A cargo that rustup put there may not be on the PATH.
 export PATH := $(PATH):$(HOME)/.cargo/bin
 
-demo: kit
-	@mkdir -p target
-	@echo "Proving and building the programs cases, maplist, stores and captions (three minutes from nothing) .."
-	@rt check cases maplist stores captions > target/demo.log 2>&1 || { cat target/demo.log; exit 1; }
-	@echo "the scope's twelve cases"
-	@target/bin/cases
-	@echo "the map of case 12, listed"
-	@target/bin/maplist < runs/maplist/case-12.in
-	@echo "two flags of a page changed opposite ways, and stored"
-	@target/bin/stores < crates/stores/stdin
-	@echo "a field encoded, searched and decoded"
-	@target/bin/captions < crates/captions/stdin
+BUILT := target/cargo/release
+ARCHIVE := target/staticlib/libcotelark.a
+
+demo: command
+	@$(BUILT)/demo $(BUILT)/cotelark target/demo
+
+command: archive
+	@host/tools gcc cargo
+	@cd host && cargo build --release --offline --quiet
 
 test: kit
 	rt fmt --check
@@ -30,10 +27,12 @@ fuzz: kit archive
 	host/tools cargo
 	cd host && cargo run --release --offline --quiet --bin fuzz -- $(SEED)
 
-# The static library that C and Rust link, with the proofs that it needs.
-archive: kit
+# The static library that C and Rust link, with the proofs that it needs; made anew when a line of Rattle has changed.
+archive: kit $(ARCHIVE)
+
+$(ARCHIVE): crates.txt $(shell find crates -name '*.rt' -o -name '*.antt')
 	@mkdir -p target
-	@echo "Proving and building target/staticlib/libcotelark.a (two minutes from nothing) .."
+	@echo "Proving and building $@ (two minutes from nothing) .."
 	@rt staticlib cotelark > target/archive.log 2>&1 || { cat target/archive.log; exit 1; }
 
 # The kit that the proofs were last seen to pass with is named in kit.txt; another one may do as well.

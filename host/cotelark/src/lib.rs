@@ -59,3 +59,8 @@ pub use signature::{edit, join, sign, Signature};
 
 // What makes every call of the C interface here sound: each pointer comes from a slice, an array or a variable that lives through the call, goes with that
 // slice's own length, and, where the function writes, from a mutable borrow, which overlaps nothing else that is handed over.
+
+/// What the repository's front page says in Rust is run as it is printed there.
+#[cfg(doctest)]
+#[doc = include_str!("../../../README.md")]
+struct FrontPage;
