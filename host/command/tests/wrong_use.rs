@@ -137,13 +137,15 @@ fn the_help() {
     assert_eq!((general.status, general.err.as_str()), (Some(0), ""));
     for words in USES {
         let name = words[0];
-        assert!(general.out.contains(&format!("\n  {name} ")), "{name}");
+        assert!(general.out.contains(&format!("\n  cotelark {name} ")), "{name}");
         for words in [&[name, "--help"][..], &[name, "-h"], &[words, &["--help"]].concat()] {
             let help = folder.run_unchanged(words);
             assert_eq!((help.status, help.err.as_str()), (Some(0), ""));
-            assert!(help.out.starts_with(&format!("cotelark {name}")) && help.out.contains("Exit status: 0 done; 1 refused"), "{}", help.out);
+            assert!(help.out.starts_with(&format!("cotelark {name} ")) && help.out.contains("Exit status: 0 done; 1 refused"), "{}", help.out);
+            assert!(help.out.lines().all(|line| line.chars().count() <= 80), "{}", help.out);
         }
     }
+    assert!(general.out.lines().all(|line| line.chars().count() <= 80), "{}", general.out);
     let store = folder.run(&["store", "--help"]).out;
     assert!(store.contains("Not promised yet"));
 }

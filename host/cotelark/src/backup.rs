@@ -1,6 +1,6 @@
 //! A backup, the image of a table and its map: stored whole or a page a step, and loaded.
 
-use crate::refusal::told;
+use crate::refusal::{told, unknown};
 use crate::{Bytes, Refusal};
 use cotelark_sys::*;
 
@@ -10,7 +10,7 @@ use cotelark_sys::*;
 /// Where the map holds the signatures of the image's pages and no page differs in more than n symbols, the image is then equal to the table, and the
 /// pages written are precisely those that differed.
 ///
-/// # Refused
+/// # Errors
 ///
 /// [`Refusal::Map`], [`Refusal::Match`] (table, image and the map's bucket differ in length), [`Refusal::Room`].
 ///
@@ -27,10 +27,19 @@ use cotelark_sys::*;
 /// ```
 pub fn store<'a>(table: &[u8], image: &mut [u8], map: &mut [u8], list: &'a mut [usize]) -> Result<&'a [usize], Refusal> {
     let mut value = 0;
-    let (numbers, room) = (list.as_mut_ptr(), list.len());
-    let (table, table_bytes) = (table.as_ptr(), table.len());
-    let status =
-        unsafe { cotelark_store(table, table_bytes, image.as_mut_ptr(), image.len(), map.as_mut_ptr(), map.len(), numbers, room, &mut value) };
+    let status = unsafe {
+        cotelark_store(
+            table.as_ptr(),
+            table.len(),
+            image.as_mut_ptr(),
+            image.len(),
+            map.as_mut_ptr(),
+            map.len(),
+            list.as_mut_ptr(),
+            list.len(),
+            &mut value,
+        )
+    };
     told(status, value).map(|written| &list[..written])
 }
 
@@ -85,25 +94,36 @@ impl Place {
 
     /// Takes one page, and goes on to the next; where the store is finished, or the step is refused, the place stays.
     ///
-    /// # Refused
+    /// # Errors
     ///
     /// [`Refusal::Map`], [`Refusal::Match`] (table, image and the map's bucket differ in length), [`Refusal::PageNo`] (a place above the page count).
     pub fn step(&mut self, table: &[u8], image: &mut [u8], map: &mut [u8]) -> Result<Step, Refusal> {
         let (mut answer, mut value) = (0, 0);
-        let (place, (table, table_bytes)) = (&mut self.0, (table.as_ptr(), table.len()));
-        let (image, image_bytes) = (image.as_mut_ptr(), image.len());
-        let status = unsafe { cotelark_step(place, table, table_bytes, image, image_bytes, map.as_mut_ptr(), map.len(), &mut answer, &mut value) };
+        let status = unsafe {
+            cotelark_step(
+                &mut self.0,
+                table.as_ptr(),
+                table.len(),
+                image.as_mut_ptr(),
+                image.len(),
+                map.as_mut_ptr(),
+                map.len(),
+                &mut answer,
+                &mut value,
+            )
+        };
         told(status, value).map(|page| match answer {
             COTELARK_STEP_KEPT => Step::Kept(page),
             COTELARK_STEP_WRITTEN => Step::Written(page),
-            _ => Step::Finished,
+            COTELARK_STEP_FINISHED => Step::Finished,
+            _ => unknown(answer),
         })
     }
 }
 
 /// One page of a backup: the part of the image that it is, if it has its entry's signature. Nothing is copied.
 ///
-/// # Refused
+/// # Errors
 ///
 /// [`Refusal::Map`], [`Refusal::Match`] (the image and the map's bucket differ in length), [`Refusal::PageNo`], [`Refusal::Damaged`].
 ///
@@ -125,7 +145,7 @@ pub fn load_page<'a>(image: &'a [u8], map: &[u8], page: usize) -> Result<&'a [u8
 
 /// Whether [`load_page`] would load that page.
 ///
-/// # Refused
+/// # Errors
 ///
 /// As [`load_page`] is.
 ///
@@ -145,7 +165,7 @@ pub fn ask_page(image: &[u8], map: &[u8], page: usize) -> Result<(), Refusal> {
 
 /// Loads a bucket: all of the image goes into the table, once every page is found to have its entry's signature. Answers the bytes moved.
 ///
-/// # Refused
+/// # Errors
 ///
 /// [`Refusal::Map`], [`Refusal::Match`] (table, image and the map's bucket differ in length), [`Refusal::Damaged`].
 ///
@@ -160,7 +180,6 @@ pub fn ask_page(image: &[u8], map: &[u8], page: usize) -> Result<(), Refusal> {
 /// ```
 pub fn load_bucket(image: &[u8], map: &[u8], table: &mut [u8]) -> Result<Bytes, Refusal> {
     let mut value = 0;
-    let (room, length) = (table.as_mut_ptr(), table.len());
-    let status = unsafe { cotelark_load_bucket(image.as_ptr(), image.len(), map.as_ptr(), map.len(), room, length, &mut value) };
+    let status = unsafe { cotelark_load_bucket(image.as_ptr(), image.len(), map.as_ptr(), map.len(), table.as_mut_ptr(), table.len(), &mut value) };
     told(status, value).map(Bytes)
 }

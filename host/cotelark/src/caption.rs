@@ -6,7 +6,7 @@ use cotelark_sys::{cotelark_decode, cotelark_encode, cotelark_search};
 
 /// Writes the cumulative code of a plain field of at most 32,768 symbols to the start of `output`, and answers it.
 ///
-/// # Refused
+/// # Errors
 ///
 /// [`Refusal::Long`], [`Refusal::Odd`], [`Refusal::Room`].
 ///
@@ -23,7 +23,7 @@ pub fn encode<'a>(plain: &[u8], output: &'a mut [u8]) -> Result<&'a mut [u8], Re
 
 /// Writes the plain field of a code to the start of `output`, and answers it: [`encode`] undone.
 ///
-/// # Refused
+/// # Errors
 ///
 /// [`Refusal::Long`], [`Refusal::Odd`], [`Refusal::Room`].
 ///
@@ -43,7 +43,7 @@ pub fn decode<'a>(code: &[u8], output: &'a mut [u8]) -> Result<&'a mut [u8], Ref
 ///
 /// A place hits where the field's part there has the pattern's first component; the part itself may still be another one.
 ///
-/// # Refused
+/// # Errors
 ///
 /// [`Refusal::Long`] (the field), [`Refusal::Odd`] (field or pattern), [`Refusal::Room`], [`Refusal::Empty`].
 ///
@@ -57,8 +57,8 @@ pub fn decode<'a>(code: &[u8], output: &'a mut [u8]) -> Result<&'a mut [u8], Ref
 /// ```
 pub fn search<'a>(code: &[u8], pattern: &[u8], list: &'a mut [Symbols]) -> Result<&'a [Symbols], Refusal> {
     let mut value = 0;
-    // A count of symbols is one number, and is laid out as that number.
-    let (numbers, room) = (list.as_mut_ptr().cast(), list.len());
-    let status = unsafe { cotelark_search(code.as_ptr(), code.len(), pattern.as_ptr(), pattern.len(), numbers, room, &mut value) };
+    // A count of symbols is laid out as its number.
+    let numbers = list.as_mut_ptr().cast();
+    let status = unsafe { cotelark_search(code.as_ptr(), code.len(), pattern.as_ptr(), pattern.len(), numbers, list.len(), &mut value) };
     told(status, value).map(|places| &list[..places])
 }

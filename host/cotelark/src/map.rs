@@ -54,7 +54,7 @@ impl Sizes {
 ///
 /// What is answered ends where the map ends, as everything that takes a map wants it.
 ///
-/// # Refused
+/// # Errors
 ///
 /// [`Refusal::Size`], [`Refusal::Page`], [`Refusal::Long`], [`Refusal::Room`].
 ///
@@ -69,14 +69,13 @@ impl Sizes {
 /// ```
 pub fn make_map<'a>(n: usize, page: Bytes, bucket: &[u8], output: &'a mut [u8]) -> Result<&'a mut [u8], Refusal> {
     let mut value = 0;
-    let (room, length) = (output.as_mut_ptr(), output.len());
-    let status = unsafe { cotelark_make_map(n, page.0, bucket.as_ptr(), bucket.len(), room, length, &mut value) };
+    let status = unsafe { cotelark_make_map(n, page.0, bucket.as_ptr(), bucket.len(), output.as_mut_ptr(), output.len(), &mut value) };
     told(status, value).map(|bytes| &mut output[..bytes])
 }
 
 /// What a map's first fields say, once the whole map is found to keep its rules.
 ///
-/// # Refused
+/// # Errors
 ///
 /// [`Refusal::Map`].
 ///
@@ -94,7 +93,7 @@ pub fn read_map(map: &[u8]) -> Result<Sizes, Refusal> {
 /// Writes a map as text to the start of `output`, and answers it: a line with n, page bytes, bucket bytes and page count, then a line a page with its number
 /// and the components in hex; of a map that breaks a rule the one line `map refused at P`.
 ///
-/// # Refused
+/// # Errors
 ///
 /// [`Refusal::Room`].
 ///

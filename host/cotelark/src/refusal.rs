@@ -101,7 +101,7 @@ impl Refusal {
             COTELARK_PAGENO => Refusal::PageNo,
             COTELARK_DAMAGED => Refusal::Damaged { page: value },
             COTELARK_THIN => Refusal::Thin,
-            _ => panic!("the archive answers {status}, and the header that this was written for has no such refusal"),
+            _ => unknown(status),
         }
     }
 }
@@ -134,4 +134,9 @@ pub(crate) fn told(status: u32, value: usize) -> Result<usize, Refusal> {
     } else {
         Err(Refusal::of(status, value))
     }
+}
+
+/// An archive of another version than the header that this was written for.
+pub(crate) fn unknown(answer: u32) -> ! {
+    panic!("the archive answers {answer}, which the header does not name")
 }

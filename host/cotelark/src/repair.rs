@@ -1,8 +1,8 @@
 //! One symbol of a page put right.
 
-use crate::refusal::told;
+use crate::refusal::{told, unknown};
 use crate::{Refusal, Symbols};
-use cotelark_sys::{cotelark_repair_page, COTELARK_REPAIR_REPAIRED, COTELARK_REPAIR_WHOLE};
+use cotelark_sys::{cotelark_repair_page, COTELARK_REPAIR_BEYOND, COTELARK_REPAIR_REPAIRED, COTELARK_REPAIR_WHOLE};
 
 /// What a repair found and did.
 #[derive(Clone, Copy, Debug, PartialEq, Eq, Hash)]
@@ -28,7 +28,7 @@ pub enum Repair {
 ///
 /// As long as the entry is the undamaged page's, one damaged symbol is always restored; with n of 3 or 4 two are [`Repair::Beyond`].
 ///
-/// # Refused
+/// # Errors
 ///
 /// [`Refusal::Map`], [`Refusal::Match`] (the image and the map's bucket differ in length), [`Refusal::PageNo`], [`Refusal::Thin`].
 ///
@@ -46,14 +46,25 @@ pub enum Repair {
 /// ```
 pub fn repair_page(image: &mut [u8], map: &[u8], page: usize) -> Result<Repair, Refusal> {
     let (mut answer, mut position, mut old, mut new, mut marked, mut value) = (0, 0, 0, 0, 0, 0);
-    let (image, image_bytes) = (image.as_mut_ptr(), image.len());
-    let (map, map_bytes) = (map.as_ptr(), map.len());
-    let (answer_to, position_to, old_to, new_to, marked_to) = (&mut answer, &mut position, &mut old, &mut new, &mut marked);
-    let status =
-        unsafe { cotelark_repair_page(image, image_bytes, map, map_bytes, page, answer_to, position_to, old_to, new_to, marked_to, &mut value) };
+    let status = unsafe {
+        cotelark_repair_page(
+            image.as_mut_ptr(),
+            image.len(),
+            map.as_ptr(),
+            map.len(),
+            page,
+            &mut answer,
+            &mut position,
+            &mut old,
+            &mut new,
+            &mut marked,
+            &mut value,
+        )
+    };
     told(status, value).map(|_| match answer {
         COTELARK_REPAIR_WHOLE => Repair::Whole,
         COTELARK_REPAIR_REPAIRED => Repair::Repaired { position: Symbols(position), old, new, marked: marked != 0 },
-        _ => Repair::Beyond,
+        COTELARK_REPAIR_BEYOND => Repair::Beyond,
+        _ => unknown(answer),
     })
 }

@@ -14,7 +14,7 @@ pub struct Signature {
 impl Signature {
     /// The signature with these components, the first one first: as they stand in a map's entry, say.
     ///
-    /// # Refused
+    /// # Errors
     ///
     /// [`Refusal::Size`], where there are none or more than four.
     ///
@@ -44,7 +44,7 @@ impl Signature {
 
 /// The n-symbol signature of an object of at most 65,534 symbols; an odd last byte is completed by a zero.
 ///
-/// # Refused
+/// # Errors
 ///
 /// [`Refusal::Size`], [`Refusal::Long`].
 ///
@@ -63,7 +63,7 @@ pub fn sign(n: usize, object: &[u8]) -> Result<Signature, Refusal> {
 ///
 /// It is the whole's own signature when each one handed in is its part's own and the first part has an even number of bytes.
 ///
-/// # Refused
+/// # Errors
 ///
 /// [`Refusal::Long`] (both counts together), [`Refusal::Match`] (two different n).
 ///
@@ -76,8 +76,8 @@ pub fn sign(n: usize, object: &[u8]) -> Result<Signature, Refusal> {
 /// ```
 pub fn join(first: &Signature, a: Symbols, second: &Signature, b: Symbols) -> Result<Signature, Refusal> {
     let mut components = [0; 4];
-    let (one, other) = (first.components.as_ptr(), second.components.as_ptr());
-    let status = unsafe { cotelark_join(first.n, one, a.0, second.n, other, b.0, components.as_mut_ptr()) };
+    let status =
+        unsafe { cotelark_join(first.n, first.components.as_ptr(), a.0, second.n, second.components.as_ptr(), b.0, components.as_mut_ptr()) };
     signed(status, first.n, components)
 }
 
@@ -85,7 +85,7 @@ pub fn join(first: &Signature, a: Symbols, second: &Signature, b: Symbols) -> Re
 ///
 /// It is the edited page's own signature when the one handed in is the page's own and the page holds the old bytes there.
 ///
-/// # Refused
+/// # Errors
 ///
 /// [`Refusal::Long`] (`r` and the old bytes' symbols together), [`Refusal::Odd`] (either piece), [`Refusal::Match`] (pieces of unequal length).
 ///
@@ -97,10 +97,9 @@ pub fn join(first: &Signature, a: Symbols, second: &Signature, b: Symbols) -> Re
 /// # Ok::<(), cotelark::Refusal>(())
 /// ```
 pub fn edit(signature: &Signature, r: Symbols, old: &[u8], new: &[u8]) -> Result<Signature, Refusal> {
-    let mut components = [0; 4];
+    let (n, mut components) = (signature.n, [0; 4]);
     let page = signature.components.as_ptr();
-    let (n, edited) = (signature.n, components.as_mut_ptr());
-    let status = unsafe { cotelark_edit(n, page, r.0, old.as_ptr(), old.len(), new.as_ptr(), new.len(), edited) };
+    let status = unsafe { cotelark_edit(n, page, r.0, old.as_ptr(), old.len(), new.as_ptr(), new.len(), components.as_mut_ptr()) };
     signed(status, n, components)
 }
 

@@ -16,7 +16,7 @@ fn each_refusal_in_a_sentence() {
     let map = map_of(2, 4, &BUCKET);
     let thin = map_of(1, 4, &BUCKET);
     let damaged = [1, 0, 2, 0, 3, 1];
-    let refusals: [(Result<(), Refusal>, u32, &str, usize, &str); 11] = [
+    let refusals = [
         (sign(5, &[]).map(drop), 1, "SIZE", 0, "n is not from 1 to 4"),
         (make_map(2, Bytes(3), &[], &mut []).map(drop), 2, "PAGE", 0, "the bytes of a page are not an even number from 2 to 65,536"),
         (sign(1, &[0; 131_069]).map(drop), 3, "LONG", 0, "an object, a bucket, its page count or a caption field is above its limit"),
