@@ -5,7 +5,7 @@ use crate::files::{self, InPlace};
 use crate::json::Json;
 use crate::names::{Backup, Names};
 use crate::picture::{Picture, State};
-use crate::report::{commas, counted, listed, share, Part, Report};
+use crate::report::{commas, counted, listed, share, shown, Part, Report};
 use crate::words::Words;
 use cotelark::{Bytes, Refusal};
 
@@ -17,17 +17,18 @@ const LARGEST_MAP: usize = 45_074;
 
 pub fn init(words: &Words) -> Result<Report, Failure> {
     let (table_file, image_file, map_file) = (words.file(0), words.file(1), words.file(2));
+    files::all_different(&[table_file, image_file, map_file])?;
     let (page, n) = (words.page.unwrap_or(PAGE), words.n.unwrap_or(N));
     let table = files::read(table_file)?;
     let mut room = vec![0; LARGEST_MAP];
     let map = cotelark::make_map(n, Bytes(page), &table, &mut room).map_err(|refusal| {
-        let of = format!("{} has {}, --page is {page} and --n is {n}", table_file.display(), counted(table.len(), "byte"));
+        let of = format!("{} has {}, --page is {page} and --n is {n}", shown(table_file), counted(table.len(), "byte"));
         Failure::Refused { refusal, of, advice: how_to_make(refusal).to_string() }
     })?;
-    files::create(image_file, &table)?;
-    files::create(map_file, map).inspect_err(|_| files::remove(image_file))?;
+    files::create(image_file, &table, table_file)?;
+    files::create(map_file, map, table_file).inspect_err(|_| files::remove(image_file))?;
     let pages = table.len().div_ceil(page);
-    let made = format!("{} backed up to {} and {}", table_file.display(), image_file.display(), map_file.display());
+    let made = format!("{} backed up to {} and {}", shown(table_file), shown(image_file), shown(map_file));
     let sizes = format!("{} in {} of {}, n = {n}", counted(table.len(), "byte"), counted(pages, "page"), commas(page));
     let json = vec![
         ("n", Json::Number(n)),
@@ -68,7 +69,7 @@ fn stored(names: &Names, written: &[usize]) -> Report {
     let bytes = written.iter().map(|&page| names.page(page).len()).sum();
     let in_pages = format!("{} of {}", commas(written.len()), counted(pages, "page"));
     let in_bytes = format!("{} of {}{}", commas(bytes), counted(bucket, "byte"), share(bytes, bucket));
-    let mut parts = vec![Part::Line(format!("{} stored: {in_pages} written, {in_bytes}", names.buckets[0].0.display()))];
+    let mut parts = vec![Part::Line(format!("{} stored: {in_pages} written, {in_bytes}", shown(names.buckets[0].0)))];
     parts.extend(listed("written", written));
     parts.push(Part::Picture(Picture::new(pages, "kept", &[(State::Written, written)])));
     let json = vec![
@@ -85,8 +86,8 @@ pub fn load(words: &Words) -> Result<Report, Failure> {
     let Backup { image, map, names } = Backup::read(words.file(0), words.file(1))?;
     let mut table = vec![0; names.sizes.bucket.0];
     let Bytes(bytes) = cotelark::load_bucket(&image, &map, &mut table).map_err(|refusal| names.refused(refusal))?;
-    files::create(out_file, &table)?;
-    let (pages, loaded) = (names.sizes.pages, format!("{} loaded to {}", names.image().display(), out_file.display()));
+    files::create(out_file, &table, names.image())?;
+    let (pages, loaded) = (names.sizes.pages, format!("{} loaded to {}", shown(names.image()), shown(out_file)));
     let line = format!("{loaded}: {}, each of its {} with its entry's signature", counted(bytes, "byte"), counted(pages, "page"));
     Ok(Report::new(vec![Part::Line(line)], vec![("bytes", Json::Number(bytes)), ("pages", Json::Number(pages))]))
 }

@@ -3,7 +3,7 @@
 use crate::failure::Failure;
 use crate::files;
 use crate::json::Json;
-use crate::report::{commas, counted, in_hex, Part, Report};
+use crate::report::{commas, counted, in_hex, shown, Part, Report};
 use crate::words::Words;
 use cotelark::{Refusal, Symbols};
 use std::io;
@@ -34,9 +34,9 @@ pub fn search(words: &Words) -> Result<Report, Failure> {
     let mut list = vec![Symbols(0); field.len() / 2];
     let places = cotelark::search(&field, &pattern, &mut list).map_err(|refusal| {
         let length = |bytes: &[u8]| counted(bytes.len(), "byte");
-        refused(refusal, format!("{} has {} and {} has {}", field_file.display(), length(&field), pattern_file.display(), length(&pattern)))
+        refused(refusal, format!("{} has {} and {} has {}", shown(field_file), length(&field), shown(pattern_file), length(&pattern)))
     })?;
-    let found = format!("{} found in {}: {}", pattern_file.display(), field_file.display(), counted(places.len(), "place"));
+    let found = format!("{} found in {}: {}", shown(pattern_file), shown(field_file), counted(places.len(), "place"));
     let mut parts = vec![Part::Line(found)];
     parts.extend(places.iter().map(|place| Part::Line(format!("symbol {}", commas(place.0)))));
     Ok(Report::new(parts, vec![("places", Json::list(places, |place| Json::Number(place.0)))]))

@@ -25,12 +25,12 @@ impl Failure {
     }
 
     /// The same for a program that reads the output.
-    pub fn json(&self) -> Json {
+    pub fn json(&self) -> Vec<(&'static str, Json)> {
         let mut parts = vec![("error", Json::text(self))];
         if let Failure::Refused { refusal, .. } = self {
             parts.push(("refused", refused_json(refusal)));
         }
-        Json::Object(parts)
+        parts
     }
 }
 

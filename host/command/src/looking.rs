@@ -6,7 +6,7 @@ use crate::files;
 use crate::json::Json;
 use crate::names::{Backup, Names};
 use crate::picture::{Picture, State};
-use crate::report::{commas, counted, in_hex, listed, Part, Report};
+use crate::report::{commas, counted, in_hex, listed, shown, Part, Report};
 use crate::words::Words;
 use cotelark::{Bytes, Refusal, Signature};
 
@@ -16,7 +16,7 @@ pub fn page(words: &Words) -> Result<Report, Failure> {
     let page = cotelark::load_page(&image, &map, k).map_err(|refusal| names.refused(refusal))?;
     let signature = cotelark::sign(names.sizes.n, page).expect("the load has signed it");
     let place = names.page(k);
-    let of = format!("page {} of {}", commas(k), names.image().display());
+    let of = format!("page {} of {}", commas(k), shown(names.image()));
     let bytes = format!("bytes {} to {} of the table", commas(place.start), commas(place.end - 1));
     let mut parts = vec![Part::Line(format!("{of}: {bytes}, signature {}", in_components(&signature)))];
     parts.extend(place.clone().step_by(16).zip(page.chunks(16)).map(|(offset, row)| Part::Line(dumped(offset, row))));
@@ -42,12 +42,12 @@ pub fn check(words: &Words) -> Result<Report, Failure> {
     let pages = names.sizes.pages;
     let damaged: Vec<usize> = (0..pages).filter(|&page| cotelark::ask_page(&image, &map, page).is_err()).collect();
     let figures = format!("{} of {} damaged", commas(damaged.len()), counted(pages, "page"));
-    let mut parts = vec![Part::Line(format!("{} checked: {figures}", names.image().display()))];
+    let mut parts = vec![Part::Line(format!("{} checked: {figures}", shown(names.image())))];
     parts.extend(listed("damaged", &damaged));
     parts.push(Part::Picture(Picture::new(pages, "whole", &[(State::Damaged, &damaged)])));
     let against = damaged.first().map(|&page| names.refused(Refusal::Damaged { page }));
     let json = vec![("pages", Json::Number(pages)), ("damaged", Json::numbers(&damaged))];
-    Ok(Report { against, ..Report::new(parts, json) })
+    Ok(Report::new(parts, json).against(against))
 }
 
 pub fn list(words: &Words) -> Result<Report, Failure> {
@@ -69,7 +69,7 @@ pub fn list(words: &Words) -> Result<Report, Failure> {
 }
 
 pub fn sign(words: &Words) -> Result<Report, Failure> {
-    let file = words.file(0).display();
+    let file = shown(words.file(0));
     let object = files::read(words.file(0))?;
     let n = words.n.unwrap_or(N);
     let signature = cotelark::sign(n, &object).map_err(|refusal| {

@@ -2,7 +2,7 @@
 
 use crate::failure::Failure;
 use crate::files;
-use crate::report::{commas, counted};
+use crate::report::{commas, counted, shown};
 use cotelark::{Refusal, Sizes};
 use std::ops::Range;
 use std::path::Path;
@@ -19,8 +19,8 @@ impl<'a> Names<'a> {
     /// Reads the map, the one of these files that is no bucket.
     pub fn new(buckets: Vec<(&'a Path, usize)>, map: &'a Path, map_bytes: &[u8]) -> Result<Names<'a>, Failure> {
         let sizes = cotelark::read_map(map_bytes).map_err(|refusal| {
-            let advice = "take another copy of it, or make the backup anew with `cotelark init`".to_string();
-            Failure::Refused { refusal, of: map.display().to_string(), advice }
+            let advice = "take another copy of it, or make a new backup with `cotelark init`".to_string();
+            Failure::Refused { refusal, of: shown(map), advice }
         })?;
         Ok(Names { buckets, map, sizes })
     }
@@ -41,12 +41,11 @@ impl<'a> Names<'a> {
 
     /// What the library refuses once it has read the map.
     pub fn refused(&self, refusal: Refusal) -> Failure {
-        let (image, map) = (self.image().display(), self.map.display());
+        let (image, map) = (shown(self.image()), shown(self.map));
         let (of, advice) = match refusal {
             Refusal::PageNo => (format!("{map} has {}, counted from 0", counted(self.sizes.pages, "page")), "give a number below that".to_string()),
-            Refusal::Damaged { page } => {
-                (format!("{image}"), format!("if it has one damaged symbol, `cotelark repair {image} {map} {page}` puts it right"))
-            }
+            Refusal::Damaged { .. } if self.sizes.n == 1 => (image, "n = 1 repairs nothing, so make a new backup with `cotelark init`".to_string()),
+            Refusal::Damaged { page } => (image, format!("if it has one damaged symbol, `cotelark repair IMAGE MAP {page}` puts it right")),
             Refusal::Thin => (format!("{map} has n = 1"), "a repair wants a backup made with --n 2, 3 or 4".to_string()),
             _ => (self.lengths(), "give the files that belong together".to_string()),
         };
@@ -54,9 +53,9 @@ impl<'a> Names<'a> {
     }
 
     fn lengths(&self) -> String {
-        let length = |(file, bytes): &(&Path, usize)| format!("{} has {}, ", file.display(), counted(*bytes, "byte"));
+        let length = |(file, bytes): &(&Path, usize)| format!("{} has {}, ", shown(file), counted(*bytes, "byte"));
         let lengths: String = self.buckets.iter().map(length).collect();
-        format!("{lengths}and {} is the map of a bucket of {}", self.map.display(), commas(self.sizes.bucket.0))
+        format!("{lengths}and {} is the map of a bucket of {}", shown(self.map), commas(self.sizes.bucket.0))
     }
 }
 

@@ -5,7 +5,7 @@ use crate::files::{self, InPlace};
 use crate::json::Json;
 use crate::names::{Backup, Names};
 use crate::picture::{Picture, State};
-use crate::report::{commas, counted, listed, named, Part, Report};
+use crate::report::{commas, counted, listed, named, shown, Part, Report};
 use crate::words::Words;
 use cotelark::{Repair, Symbols};
 use std::ops::Range;
@@ -33,16 +33,15 @@ pub fn repair(words: &Words) -> Result<Report, Failure> {
     let mut image = InPlace::open(image_file)?;
     let Backup { map, names, image: bytes } = Backup::of(image_file, std::mem::take(&mut image.bytes), map_file)?;
     image.bytes = bytes;
-    let pages = words.k.map_or(0..names.sizes.pages, |k| k..k.saturating_add(1));
-    let found = mend(&mut image.bytes, &map, &names, pages)?;
+    let pages = words.k.map_or_else(|| (0..names.sizes.pages).collect(), |k| vec![k]);
+    let found = mend(&mut image.bytes, &map, &names, &pages)?;
     image.write(found.repaired.iter().map(|repaired| repaired.symbol(&names)))?;
     Ok(found.report(&names, words.k.is_none()))
 }
 
-fn mend(image: &mut [u8], map: &[u8], names: &Names, pages: Range<usize>) -> Result<Found, Failure> {
-    let mut found = Found::default();
-    for page in pages {
-        found.looked_at += 1;
+fn mend(image: &mut [u8], map: &[u8], names: &Names, pages: &[usize]) -> Result<Found, Failure> {
+    let mut found = Found { looked_at: pages.len(), ..Found::default() };
+    for &page in pages {
         match cotelark::repair_page(image, map, page).map_err(|refusal| names.refused(refusal))? {
             Repair::Whole => (),
             Repair::Repaired { position, old, new, marked } => found.repaired.push(Repaired { page, position, old, new, marked }),
@@ -57,7 +56,7 @@ impl Found {
         let repaired: Vec<usize> = self.repaired.iter().map(|repaired| repaired.page).collect();
         let whole = self.looked_at - repaired.len() - self.beyond.len();
         let figures = format!("{} whole, {} repaired, {} beyond repair", commas(whole), commas(repaired.len()), commas(self.beyond.len()));
-        let mut parts = vec![Part::Line(format!("{} of {}: {figures}", counted(self.looked_at, "page"), names.image().display()))];
+        let mut parts = vec![Part::Line(format!("{} of {}: {figures}", counted(self.looked_at, "page"), shown(names.image())))];
         parts.extend(self.repaired.iter().map(|repaired| Part::Line(repaired.line())));
         parts.extend(listed("beyond repair", &self.beyond));
         if all {
@@ -69,12 +68,12 @@ impl Found {
             ("repaired", Json::list(&self.repaired, Repaired::json)),
             ("beyond", Json::numbers(&self.beyond)),
         ];
-        Report { against: self.against(names), ..Report::new(parts, json) }
+        Report::new(parts, json).against(self.against(names))
     }
 
     fn against(&self, names: &Names) -> Option<Failure> {
-        let cannot = || format!("no change of one symbol puts {} of {} right", named(&self.beyond), names.image().display());
-        (!self.beyond.is_empty()).then(|| Failure::File(format!("{}; make the backup anew from the table, with `cotelark init`.", cannot())))
+        let cannot = || format!("no change of one symbol puts {} of {} right", named(&self.beyond), shown(names.image()));
+        (!self.beyond.is_empty()).then(|| Failure::File(format!("{}; make a new backup of the table with `cotelark init`.", cannot())))
     }
 }
 

@@ -4,6 +4,7 @@ use crate::failure::Failure;
 use crate::json::Json;
 use crate::picture::{Picture, Style};
 use std::io::{self, IsTerminal};
+use std::path::Path;
 
 /// A part of what people are told.
 pub enum Part {
@@ -15,14 +16,25 @@ pub enum Part {
 
 /// What is told, in both forms, and what stands against the job although it was done.
 pub struct Report {
-    pub parts: Vec<Part>,
-    pub json: Json,
+    parts: Vec<Part>,
+    json: Vec<(&'static str, Json)>,
     pub against: Option<Failure>,
 }
 
 impl Report {
     pub fn new(parts: Vec<Part>, json: Vec<(&'static str, Json)>) -> Report {
-        Report { parts, json: Json::Object(json), against: None }
+        Report { parts, json, against: None }
+    }
+
+    /// The same, with what stands against it, if anything does.
+    pub fn against(self, against: Option<Failure>) -> Report {
+        Report { against, ..self }
+    }
+
+    /// The report for programs.
+    pub fn json(&self) -> Json {
+        let against = self.against.iter().flat_map(Failure::json);
+        Json::Object(self.json.iter().cloned().chain(against).collect())
     }
 
     /// The report for people, as it suits where it goes.
@@ -39,11 +51,26 @@ impl Report {
 }
 
 fn style() -> Style {
-    let unset = |name| std::env::var_os(name).is_none_or(|value| value.is_empty());
-    match (io::stdout().is_terminal(), unset("NO_COLOR")) {
-        (false, _) => Style::Plain,
-        (true, false) => Style::Marks,
-        (true, true) => Style::Colours,
+    let variable = |name| std::env::var_os(name).unwrap_or_default();
+    if !io::stdout().is_terminal() || variable("TERM") == "dumb" {
+        Style::Plain
+    } else if variable("NO_COLOR").is_empty() {
+        Style::Colours
+    } else {
+        Style::Marks
+    }
+}
+
+/// A file's name as it can stand in a line: what would move or colour a terminal is written out.
+pub fn shown(path: &Path) -> String {
+    let name = path.to_string_lossy();
+    let letter = |letter: char| match letter {
+        '\'' | '"' | '\\' => letter.to_string(),
+        _ => letter.escape_debug().to_string(),
+    };
+    match name.is_empty() {
+        true => "''".to_string(),
+        false => name.chars().map(letter).collect(),
     }
 }
 
@@ -105,6 +132,14 @@ mod tests {
         assert_eq!((named(&[4_095]), named(&[1, 2])), ("page 4,095".to_string(), "pages 1, 2".to_string()));
         let many: Vec<usize> = (0..1_014).collect();
         assert_eq!(named(&many), "pages 0, 1, 2, 3, 4, 5, 6, 7, 8, 9, 10, 11 and 1,002 more");
+    }
+
+    #[test]
+    fn names_in_a_line() {
+        let name = |name: &str| shown(Path::new(name));
+        assert_eq!(name("a b/Sätze's \"\\.t"), "a b/Sätze's \"\\.t");
+        assert_eq!(name("a\nb\x1b[31m\u{202e}\u{9b}"), "a\\nb\\u{1b}[31m\\u{202e}\\u{9b}");
+        assert_eq!(name(""), "''");
     }
 
     #[test]

@@ -73,7 +73,7 @@ pub const SUBCOMMANDS: [Subcommand; 11] = [
 
 A symbol is two bytes. TABLE has at most 16777216 bytes, and 4096 pages. IMAGE
 and MAP must not be there yet: nothing is written over. Each of them appears
-whole or not at all, IMAGE first.",
+whole or not at all, IMAGE first, and may be read by those who may read TABLE.",
         run: backup::init,
     },
     Subcommand {

@@ -55,7 +55,25 @@ fn init_writes_over_nothing() {
     let there = |name| failed(1, &format!("cotelark init: {name} is there already, and nothing is written over it.\n"));
     assert_eq!(folder.run_unchanged(&["init", "t", "i", "m2"]), there("i"));
     assert_eq!(folder.run_unchanged(&["init", "t", "i2", "m"]), there("m"));
-    assert_eq!(folder.run_unchanged(&["init", "t", "x", "x"]), there("x"));
+    std::os::unix::fs::symlink("nowhere", folder.path("link")).expect("a link");
+    assert_eq!(folder.run_unchanged(&["init", "t", "link", "m2"]), there("link"));
+    assert_eq!(folder.run_unchanged(&["init", "t", "x", "./x"]), there("./x"));
+    assert_eq!(folder.run_unchanged(&["init", "t", "x", "x"]), failed(2, "cotelark init: x and x are one file.\n"));
+}
+
+#[test]
+fn who_may_not_read_the_table_may_not_read_its_backup() {
+    let folder = Folder::new();
+    folder.write("t", BUCKET);
+    folder.allow("t", 0o600);
+    assert_eq!(folder.run(&["init", "t", "i", "m", "--page", "4"]).status, Some(0));
+    folder.allow("i", 0o640);
+    assert_eq!(folder.run(&["load", "i", "m", "o"]).status, Some(0));
+    assert_eq!(["i", "m", "o"].map(|name| folder.allowed(name)), [0o640, 0o600, 0o640]);
+    // A table that is only read has a backup that can be stored.
+    folder.allow("t", 0o444);
+    assert_eq!(folder.run(&["init", "t", "i2", "m2", "--page", "4"]).status, Some(0));
+    assert_eq!(folder.allowed("i2"), 0o644);
 }
 
 #[test]
@@ -104,7 +122,7 @@ fn a_store_names_the_map_that_breaks_a_rule() {
     let folder = Folder::with_backup(&BUCKET, "4", "2");
     folder.write("cut", &MAP[..31]);
     let refused = folder.run_unchanged(&["store", "t", "i", "cut", "--json"]);
-    let line = "MAP (5), value 25: the map breaks a rule at byte 25: cut; take another copy of it, or make the backup anew with `cotelark init`.";
+    let line = "MAP (5), value 25: the map breaks a rule at byte 25: cut; take another copy of it, or make a new backup with `cotelark init`.";
     assert_eq!((refused.status, refused.err), (Some(1), format!("cotelark store: {line}\n")));
     assert_eq!(refused.out, format!("{{\"error\":\"{line}\",\"refused\":{{\"name\":\"MAP\",\"number\":5,\"value\":25}}}}\n"));
 }
@@ -133,7 +151,7 @@ fn a_damaged_bucket_is_not_loaded() {
     let folder = Folder::with_backup(&BUCKET, "4", "2");
     folder.patch("i", 5, &[1]);
     let line = "cotelark load: DAMAGED (10), value 1: page 1 does not have the signature of its entry: i; ";
-    let advice = "if it has one damaged symbol, `cotelark repair i m 1` puts it right.\n";
+    let advice = "if it has one damaged symbol, `cotelark repair IMAGE MAP 1` puts it right.\n";
     assert_eq!(folder.run_unchanged(&["load", "i", "m", "o"]), failed(1, &format!("{line}{advice}")));
     folder.write("i", &BUCKET[..4]);
     let differ = folder.run_unchanged(&["load", "i", "m", "o"]);

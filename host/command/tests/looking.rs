@@ -57,7 +57,21 @@ fn a_check_shows_damaged_pages() {
     assert_eq!(found.out, format!("i checked: 2 of 130 pages damaged\ndamaged: pages 65, 129\n{picture}"));
     assert_eq!(found.status, Some(1));
     assert!(found.err.starts_with("cotelark check: DAMAGED (10), value 65: ") && found.err.lines().count() == 1, "{found:?}");
-    assert_eq!(folder.run(&["check", "--json", "i", "m"]).out, "{\"pages\":130,\"damaged\":[65,129]}\n");
+    let json = folder.run(&["check", "--json", "i", "m"]);
+    assert!(json.out.starts_with("{\"pages\":130,\"damaged\":[65,129],\"error\":\"DAMAGED (10), value 65: "), "{json:?}");
+    assert!(json.out.ends_with(",\"refused\":{\"name\":\"DAMAGED\",\"number\":10,\"value\":65}}\n"), "{json:?}");
+}
+
+#[test]
+fn a_repair_is_advised_where_there_can_be_one() {
+    for (n, advice) in
+        [("1", "n = 1 repairs nothing, so make a new backup with `cotelark init`.\n"), ("2", "`cotelark repair IMAGE MAP 1` puts it right.\n")]
+    {
+        let folder = Folder::with_backup(&BUCKET, "4", n);
+        folder.patch("i", 4, &[0]);
+        let found = folder.run(&["check", "i", "m"]);
+        assert!(found.err.ends_with(advice), "{found:?}");
+    }
 }
 
 #[test]

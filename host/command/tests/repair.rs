@@ -51,7 +51,7 @@ fn a_page_beyond_repair_stays() {
     let found = folder.run(&["repair", "i", "m"]);
     let text = "4 pages of i: 2 whole, 1 repaired, 1 beyond repair\npage 3: symbol 1 put right, 0001 became 0000\nbeyond repair: page 1\n";
     assert_eq!(found.out, format!("{text}0  .D.R\n. whole   R repaired   D damaged\n"));
-    let line = "cotelark repair: no change of one symbol puts page 1 of i right; make the backup anew from the table, with `cotelark init`.\n";
+    let line = "cotelark repair: no change of one symbol puts page 1 of i right; make a new backup of the table with `cotelark init`.\n";
     assert_eq!((found.status, found.err.as_str()), (Some(1), line));
     assert_eq!(folder.read("i")[6..12], [8, 0, 6, 0, 0, 0]);
     assert_eq!(folder.read("i")[18..], [0; 6]);
@@ -65,6 +65,9 @@ fn repairs_are_refused() {
     let folder = Folder::with_backup(&BUCKET, "4", "2");
     let page = folder.run_unchanged(&["repair", "i", "m", "2"]);
     assert!(page.status == Some(1) && page.err.starts_with("cotelark repair: PAGENO (9), value 0: "), "{page:?}");
+    // The largest number that there is, and a larger one, are page numbers as any other.
+    assert_eq!(folder.run_unchanged(&["repair", "i", "m", "18446744073709551615"]), page);
+    assert_eq!(folder.run_unchanged(&["repair", "i", "m", "99999999999999999999999"]), page);
     folder.write("i", [0; 5]);
     let lengths = folder.run_unchanged(&["repair", "i", "m"]);
     assert!(lengths.status == Some(1) && lengths.err.starts_with("cotelark repair: MATCH (6), value 0: "), "{lengths:?}");

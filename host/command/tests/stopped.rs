@@ -46,6 +46,7 @@ fn a_store_on_a_full_disk() {
     let map = folder.read("m");
     let ended = on_a_full_disk(&folder, "store t i m");
     assert!(ended.status == Some(1) && ended.err.starts_with("cotelark store: i cannot be written: ") && ended.out.is_empty(), "{ended:?}");
+    assert!(ended.err.ends_with("What was written before that stays; run this again once it can be.\n"), "{ended:?}");
     map_is_true_and_the_next_store_mends(&folder, &map);
 }
 
@@ -86,9 +87,9 @@ fn a_beginning_and_a_load_on_a_full_disk_leave_nothing() {
     let folder = changed();
     let before = folder.files();
     let ended = on_a_full_disk(&folder, "init t i2 m2");
-    assert!(ended.status == Some(1) && ended.err.starts_with("cotelark init: i2 cannot be written: "), "{ended:?}");
+    assert!(ended.status == Some(1) && ended.err.starts_with("cotelark init: i2 cannot be made: "), "{ended:?}");
     let ended = on_a_full_disk(&folder, "load i m o");
-    assert!(ended.status == Some(1) && ended.err.starts_with("cotelark load: o cannot be written: "), "{ended:?}");
+    assert!(ended.status == Some(1) && ended.err.starts_with("cotelark load: o cannot be made: "), "{ended:?}");
     assert!(folder.files() == before);
 }
 
@@ -97,10 +98,9 @@ fn a_load_that_is_stopped_leaves_no_table() {
     let folder = changed();
     let ended = stopped(&folder, "load i m o");
     assert!(ended.out.ends_with("ended with 153\n"), "{ended:?}");
-    assert!(!folder.path("o").exists() && folder.path("o.unfinished").exists());
+    assert!(!folder.path("o").exists() && folder.path(".cotelark-0.unfinished").exists());
+    // What was left is in nobody's way.
     let ended = folder.run(&["load", "i", "m", "o"]);
-    assert_eq!(
-        (ended.status, ended.err.as_str()),
-        (Some(1), "cotelark load: o.unfinished is there already, left by a call that was stopped; remove it.\n")
-    );
+    assert_eq!((ended.status, ended.err.as_str()), (Some(0), ""));
+    assert!(folder.read("o") == folder.read("i") && !folder.path(".cotelark-1.unfinished").exists());
 }

@@ -37,27 +37,62 @@ fn words_that_are_missing_or_too_many() {
     let misuse = |name: &str, what: &str| failed(2, &format!("cotelark {name}: {what}; `cotelark {name} --help` tells how it is used.\n"));
     for words in USES {
         let more = folder.run_unchanged(&[words, &["more"]].concat());
-        assert_eq!(more, misuse(words[0], "'more' is one word too many"));
+        assert_eq!(more, misuse(words[0], "more is one word too many"));
         let option = folder.run_unchanged(&[words, &["--force"]].concat());
-        assert_eq!(option, misuse(words[0], "there is no option '--force'"));
+        assert_eq!(option, misuse(words[0], "there is no option --force"));
     }
     assert_eq!(folder.run_unchanged(&["init", "t", "i2"]), misuse("init", "MAP is missing"));
     assert_eq!(folder.run_unchanged(&["store"]), misuse("store", "TABLE is missing"));
     assert_eq!(folder.run_unchanged(&["page", "i", "m"]), misuse("page", "K is missing"));
-    assert_eq!(folder.run_unchanged(&["page", "i", "m", "one"]), misuse("page", "K is a number, and 'one' is none"));
-    assert_eq!(folder.run_unchanged(&["repair", "i", "m", "--", "-1"]), misuse("repair", "K is a number, and '-1' is none"));
+    assert_eq!(folder.run_unchanged(&["page", "i", "m", "one"]), misuse("page", "K is a number, and one is none"));
+    assert_eq!(folder.run_unchanged(&["repair", "i", "m", "--", "-1"]), misuse("repair", "K is a number, and -1 is none"));
     assert_eq!(folder.run_unchanged(&["sign", "t", "--n"]), misuse("sign", "--n wants a number"));
-    assert_eq!(folder.run_unchanged(&["sign", "t", "--n", "two"]), misuse("sign", "--n is a number, and 'two' is none"));
-    assert_eq!(folder.run_unchanged(&["sign", "t", "--page", "4"]), misuse("sign", "there is no option '--page'"));
-    assert_eq!(folder.run_unchanged(&["list", "m", "--json=1"]), misuse("list", "there is no option '--json'"));
+    assert_eq!(folder.run_unchanged(&["sign", "t", "--n", "two"]), misuse("sign", "--n is a number, and two is none"));
+    assert_eq!(folder.run_unchanged(&["sign", "t", "--page", "4"]), misuse("sign", "there is no option --page"));
+    assert_eq!(folder.run_unchanged(&["list", "m", "--json=1"]), misuse("list", "there is no option --json=1"));
 }
 
 #[test]
 fn no_such_subcommand() {
     let known = "init, store, load, page, check, repair, list, sign, encode, decode, search";
-    let line = |name| failed(2, &format!("cotelark: there is no subcommand '{name}', only {known}; `cotelark --help` tells more.\n"));
+    let line = |name| failed(2, &format!("cotelark: {name} is no subcommand, but {known} are; `cotelark --help` tells more.\n"));
     assert_eq!(folder().run_unchanged(&["backup", "t"]), line("backup"));
-    assert_eq!(folder().run_unchanged(&[]), line(""));
+    assert_eq!(folder().run_unchanged(&[]), line("''"));
+}
+
+#[test]
+fn wrong_use_is_told_to_programs_too() {
+    let folder = folder();
+    let misuse = "MAP is missing; `cotelark store --help` tells how it is used.";
+    let ended = folder.run_unchanged(&["store", "--json", "t", "i"]);
+    assert_eq!((ended.status, ended.out), (Some(2), format!("{{\"error\":\"{misuse}\"}}\n")));
+    assert_eq!(ended.err, format!("cotelark store: {misuse}\n"));
+    // Behind -- it is a file's name.
+    assert_eq!(folder.run_unchanged(&["sign", "--", "--json"]), failed(1, "cotelark sign: there is no file --json.\n"));
+}
+
+#[test]
+fn numbers_of_any_size_are_refused_by_their_number() {
+    let folder = folder();
+    let large = "99999999999999999999999";
+    for (words, name) in [
+        (&["init", "t", "i2", "m2", "--page", large][..], "PAGE (2)"),
+        (&["sign", "t", "--n", large], "SIZE (1)"),
+        (&["page", "i", "m", large], "PAGENO (9)"),
+    ] {
+        let ended = folder.run_unchanged(words);
+        assert!(ended.status == Some(1) && ended.err.starts_with(&format!("cotelark {}: {name}, value 0: ", words[0])), "{ended:?}");
+    }
+}
+
+#[test]
+fn a_name_never_breaks_the_line_or_the_json() {
+    let folder = Folder::new();
+    let name = "two\nlines \"and\" \\ \x1b[31m";
+    let line = "there is no file two\\nlines \"and\" \\ \\u{1b}[31m.";
+    let ended = folder.run(&["list", "--json", name]);
+    assert_eq!((ended.status, ended.err), (Some(1), format!("cotelark list: {line}\n")));
+    assert_eq!(ended.out, "{\"error\":\"there is no file two\\\\nlines \\\"and\\\" \\\\ \\\\u{1b}[31m.\"}\n");
 }
 
 #[test]
@@ -92,7 +127,7 @@ fn a_folder_is_no_file() {
     let ended = folder.run_unchanged(&["store", "t", "d", "m"]);
     assert!(ended.status == Some(1) && ended.err.starts_with("cotelark store: d cannot be opened for reading and writing: "), "{ended:?}");
     let ended = folder.run_unchanged(&["load", "i", "m", "nowhere/o"]);
-    assert!(ended.status == Some(1) && ended.err.starts_with("cotelark load: nowhere/o.unfinished cannot be made: "), "{ended:?}");
+    assert!(ended.status == Some(1) && ended.err.starts_with("cotelark load: nowhere/o cannot be made: "), "{ended:?}");
 }
 
 #[test]
@@ -123,7 +158,16 @@ fn a_device_is_not_written() {
 fn output_that_cannot_be_written() {
     let folder = folder();
     let full = folder.shell("cotelark list m > /dev/full");
+    let line = "cotelark list: done, but standard output cannot be written: ";
+    assert!(full.status == Some(1) && full.err.starts_with(line), "{full:?}");
+    let full = folder.shell("cotelark list --help > /dev/full");
     assert!(full.status == Some(1) && full.err.starts_with("cotelark: standard output cannot be written: "), "{full:?}");
+    assert_eq!(folder.shell("cotelark list gone --json > /dev/full"), failed(1, "cotelark list: there is no file gone.\n"));
+    // Where nothing can be said at all, the status still can.
+    assert_eq!(folder.shell("cotelark list gone 2> /dev/full").status, Some(1));
+    assert_eq!(folder.shell("cotelark list gone --json 2> /dev/full").out, "{\"error\":\"there is no file gone.\"}\n");
+    assert_eq!(folder.shell("cotelark list 2> /dev/full").status, Some(2));
+    assert_eq!(folder.shell("cotelark nothing 2> /dev/full").status, Some(2));
     // A reader that takes one line of a long listing and goes away.
     let long = Folder::with_backup(&[0; 8_192], "2", "4");
     assert_eq!(long.shell("cotelark list m | head -n 1").out, "n 4 page 2 bucket 8192 pages 4096\n");

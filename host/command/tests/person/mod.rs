@@ -6,6 +6,7 @@
 use std::collections::BTreeMap;
 use std::fs;
 use std::io::Write;
+use std::os::unix::fs::PermissionsExt;
 use std::path::PathBuf;
 use std::process::{Command, Output, Stdio};
 use std::sync::atomic::{AtomicUsize, Ordering};
@@ -59,6 +60,15 @@ impl Folder {
         let mut contents = self.read(name);
         contents[offset..offset + bytes.len()].copy_from_slice(bytes);
         self.write(name, contents);
+    }
+
+    /// Says who may use a file, and who may.
+    pub fn allow(&self, name: &str, mode: u32) {
+        fs::set_permissions(self.path(name), fs::Permissions::from_mode(mode)).expect("a file of the test's");
+    }
+
+    pub fn allowed(&self, name: &str) -> u32 {
+        fs::metadata(self.path(name)).expect("a file that is there").permissions().mode() & 0o777
     }
 
     /// Every file of the folder.
