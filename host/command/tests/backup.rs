@@ -66,13 +66,14 @@ fn who_may_not_read_the_table_may_not_read_its_backup() {
     let folder = Folder::new();
     folder.write("t", BUCKET);
     folder.allow("t", 0o600);
-    assert_eq!(folder.run(&["init", "t", "i", "m", "--page", "4"]).status, Some(0));
+    let usual = |words: &str| assert_eq!(folder.shell(&format!("umask 022; cotelark {words}")).status, Some(0));
+    usual("init t i m --page 4");
     folder.allow("i", 0o640);
-    assert_eq!(folder.run(&["load", "i", "m", "o"]).status, Some(0));
+    usual("load i m o");
     assert_eq!(["i", "m", "o"].map(|name| folder.allowed(name)), [0o640, 0o600, 0o640]);
     // A table that is only read has a backup that can be stored.
     folder.allow("t", 0o444);
-    assert_eq!(folder.run(&["init", "t", "i2", "m2", "--page", "4"]).status, Some(0));
+    usual("init t i2 m2 --page 4");
     assert_eq!(folder.allowed("i2"), 0o644);
 }
 
