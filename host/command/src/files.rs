@@ -118,3 +118,21 @@ fn unusable(path: &Path, done: &str, error: &io::Error) -> Failure {
         _ => format!("{} cannot be {done}: {error}.", shown(path)),
     })
 }
+
+#[cfg(test)]
+mod tests {
+    use super::*;
+
+    #[test]
+    fn no_name_is_taken_from_a_file() {
+        let folder = std::env::temp_dir().join(format!("cotelark-files-{}", std::process::id()));
+        fs::create_dir(&folder).expect("a folder for the test");
+        let (unfinished, there) = (folder.join("unfinished"), folder.join("there"));
+        fs::write(&unfinished, "new").expect("a file of the test's");
+        fs::write(&there, "old").expect("a file of the test's");
+        let placed = place(&unfinished, &there).map_err(|error| error.kind());
+        let kept = fs::read(&there).expect("a file that is there");
+        fs::remove_dir_all(&folder).expect("the test's own folder");
+        assert_eq!((placed, &kept[..]), (Err(ErrorKind::AlreadyExists), &b"old"[..]));
+    }
+}

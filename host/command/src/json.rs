@@ -67,3 +67,16 @@ fn quoted(out: &mut fmt::Formatter<'_>, text: &str) -> fmt::Result {
     }
     write!(out, "\"")
 }
+
+#[cfg(test)]
+mod tests {
+    use super::*;
+
+    #[test]
+    fn every_form() {
+        let text = Json::text("\u{1}\n\u{1f} \"\\ä");
+        let parts = vec![("text", text), ("list", Json::numbers(&[7, 8])), ("none", Json::List(vec![])), ("so", Json::Bool(true))];
+        let json = "{\"text\":\"\\u0001\\u000a\\u001f \\\"\\\\ä\",\"list\":[7,8],\"none\":[],\"so\":true}";
+        assert_eq!(Json::Object(parts).to_string(), json);
+    }
+}

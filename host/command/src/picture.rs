@@ -109,10 +109,17 @@ mod tests {
     }
 
     #[test]
+    fn damage_hides_behind_nothing() {
+        let drawn = picture(1_025, &[(State::Damaged, &[2]), (State::Repaired, &[3])]).draw(Style::Plain);
+        assert!(drawn.starts_with("   0  .D."), "{drawn}");
+    }
+
+    #[test]
     fn a_terminal_gets_marks_and_colours() {
-        let one = picture(2, &[(State::Written, &[1])]);
-        assert_eq!(one.draw(Style::Marks), "0  ·█\n· kept   █ written\n");
-        assert_eq!(one.draw(Style::Colours).lines().next(), Some("0  \x1b[2m·\x1b[0m\x1b[32m█\x1b[0m"));
+        let all = picture(4, &[(State::Written, &[1]), (State::Repaired, &[2]), (State::Damaged, &[3])]);
+        assert_eq!(all.draw(Style::Marks), "0  ·█◆✖\n· kept   █ written   ◆ repaired   ✖ damaged\n");
+        let colours = "0  \x1b[2m·\x1b[0m\x1b[32m█\x1b[0m\x1b[33m◆\x1b[0m\x1b[31m✖\x1b[0m";
+        assert_eq!(all.draw(Style::Colours).lines().next(), Some(colours));
     }
 
     #[test]

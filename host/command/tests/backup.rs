@@ -8,7 +8,7 @@ use person::{done, failed, Folder, BUCKET, MAP};
 fn a_backup_is_made() {
     let folder = Folder::new();
     folder.write("t", BUCKET);
-    let made = folder.run(&["init", "t", "i", "m", "--page", "4", "--n=2"]);
+    let made = folder.run(&["init", "t", "i", "m", "--page=4", "--n=2"]);
     assert_eq!(made, done("t backed up to i and m: 6 bytes in 2 pages of 4, n = 2\n"));
     assert_eq!((folder.read("i"), folder.read("m")), (BUCKET.to_vec(), MAP.to_vec()));
     assert_eq!(folder.files().len(), 3);
@@ -133,7 +133,12 @@ fn a_store_takes_no_file_for_two() {
     let folder = Folder::with_backup(&BUCKET, "4", "2");
     std::fs::hard_link(folder.path("i"), folder.path("link")).expect("a link");
     assert_eq!(folder.run_unchanged(&["store", "i", "i", "m"]), failed(2, "cotelark store: i and i are one file.\n"));
+    std::os::unix::fs::symlink("i", folder.path("symbolic")).expect("a link");
     assert_eq!(folder.run_unchanged(&["store", "link", "i", "m"]), failed(2, "cotelark store: link and i are one file.\n"));
+    assert_eq!(folder.run_unchanged(&["store", "symbolic", "i", "m"]), failed(2, "cotelark store: symbolic and i are one file.\n"));
+    for words in [["store", "t", "m", "m"], ["store", "m", "i", "m"]] {
+        assert_eq!(folder.run_unchanged(&words), failed(2, "cotelark store: m and m are one file.\n"));
+    }
     assert_eq!(folder.run_unchanged(&["repair", "m", "m"]), failed(2, "cotelark repair: m and m are one file.\n"));
 }
 

@@ -21,12 +21,20 @@ fn a_field_goes_through_the_code_and_back() {
 #[test]
 fn fields_are_refused() {
     let folder = Folder::new();
+    let long = "LONG (3), value 0: an object, a bucket, its page count or a caption field is above its limit";
+    let odd = "ODD (4), value 0: there is an odd number of bytes where whole symbols are due";
+    let (parts, even) = ("a field has at most 65,536 bytes, so take it in parts", "a symbol is two bytes, so give an even number of them");
     for subcommand in ["encode", "decode"] {
-        for (bytes, name) in [(65_537, "LONG (3)"), (65_538, "LONG (3)"), (65_535, "ODD (4)"), (1, "ODD (4)")] {
+        for (bytes, given, why, advice) in [
+            (65_537, "65,537 bytes", long, parts),
+            (65_538, "65,538 bytes", long, parts),
+            (65_535, "65,535 bytes", odd, even),
+            (1, "1 byte", odd, even),
+        ] {
             let ended = folder.pipe(&[subcommand], &vec![0; bytes]);
-            let err = String::from_utf8(ended.stderr).expect("text");
             assert_eq!((ended.status.code(), &ended.stdout[..]), (Some(1), &b""[..]));
-            assert!(err.starts_with(&format!("cotelark {subcommand}: {name}, value 0: ")) && err.lines().count() == 1, "{err}");
+            let line = format!("cotelark {subcommand}: {why}: standard input has {given}; {advice}.\n");
+            assert_eq!(String::from_utf8(ended.stderr), Ok(line));
         }
     }
 }
@@ -38,6 +46,8 @@ fn a_pattern_is_found() {
     folder.write("p", [2, 0, 3, 0]);
     assert_eq!(folder.run_unchanged(&["search", "code", "p"]), done("p found in code: 1 place\nsymbol 1\n"));
     assert_eq!(folder.run(&["search", "code", "p", "--json"]), done("{\"places\":[1]}\n"));
+    folder.write("p", [3, 0]);
+    assert_eq!(folder.run(&["search", "code", "p"]), done("p found in code: 1 place\nsymbol 2\n"));
     folder.write("p", [2, 0, 2, 0]);
     assert_eq!(folder.run(&["search", "code", "p"]), done("p found in code: 0 places\n"));
     folder.write("p", [0; 200_000]);

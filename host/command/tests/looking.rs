@@ -58,6 +58,7 @@ fn a_check_shows_damaged_pages() {
     assert_eq!(found.status, Some(1));
     assert!(found.err.starts_with("cotelark check: DAMAGED (10), value 65: ") && found.err.lines().count() == 1, "{found:?}");
     let json = folder.run(&["check", "--json", "i", "m"]);
+    assert_eq!((json.status, &json.err), (found.status, &found.err));
     assert!(json.out.starts_with("{\"pages\":130,\"damaged\":[65,129],\"error\":\"DAMAGED (10), value 65: "), "{json:?}");
     assert!(json.out.ends_with(",\"refused\":{\"name\":\"DAMAGED\",\"number\":10,\"value\":65}}\n"), "{json:?}");
 }
@@ -125,8 +126,9 @@ fn a_file_is_signed() {
     folder.write("f", vec![0; 131_068]);
     assert_eq!(folder.run(&["sign", "f"]), done("f: 131,068 bytes, 65,534 symbols, signature 0000 0000 0000 0000\n"));
     folder.write("f", vec![0; 131_069]);
-    let long = folder.run(&["sign", "f"]);
-    assert!(long.status == Some(1) && long.err.starts_with("cotelark sign: LONG (3), value 0: "), "{long:?}");
-    let size = folder.run(&["sign", "f", "--n", "0"]);
-    assert!(size.status == Some(1) && size.err.starts_with("cotelark sign: SIZE (1), value 0: "), "{size:?}");
+    let long = "cotelark sign: LONG (3), value 0: an object, a bucket, its page count or a caption field is above its limit: f has 131,069 bytes and --n is 4; \
+                give a file of at most 131,068 bytes, or have `cotelark init` sign it page by page.\n";
+    assert_eq!(folder.run(&["sign", "f"]), failed(1, long));
+    let size = "cotelark sign: SIZE (1), value 0: n is not from 1 to 4: f has 131,069 bytes and --n is 0; give --n a number from 1 to 4.\n";
+    assert_eq!(folder.run(&["sign", "f", "--n", "0"]), failed(1, size));
 }

@@ -41,6 +41,8 @@ fn with_n_2_a_repair_is_marked() {
     let line = "page 0: symbol 2 put right, 0000 became 0001 (n = 2: may be two damaged symbols taken for one)\n";
     assert_eq!(repaired, done(&format!("1 page of i: 0 whole, 1 repaired, 0 beyond repair\n{line}")));
     assert_eq!(folder.read("i"), [8, 0, 6, 0, 1, 0]);
+    folder.patch("i", 0, &[9]);
+    assert!(folder.run(&["repair", "i", "m", "--json"]).out.contains(",\"marked\":true}"));
 }
 
 #[test]
@@ -55,6 +57,9 @@ fn a_page_beyond_repair_stays() {
     assert_eq!((found.status, found.err.as_str()), (Some(1), line));
     assert_eq!(folder.read("i")[6..12], [8, 0, 6, 0, 0, 0]);
     assert_eq!(folder.read("i")[18..], [0; 6]);
+    let json = folder.run_unchanged(&["repair", "i", "m", "--json"]);
+    assert_eq!((json.status, json.err.as_str()), (Some(1), line));
+    assert!(json.out.starts_with("{\"looked_at\":4,\"repaired\":[],\"beyond\":[1],\"error\":\"no change of one symbol puts "), "{json:?}");
 }
 
 #[test]

@@ -64,8 +64,14 @@ fn a_store_that_is_stopped() {
 fn a_store_writes_pages_and_entries_by_offset() {
     let folder = changed();
     folder.patch("t", HIGH * PAGE, &[7]);
-    // Nothing that is written is above the limit, though both files are longer.
+    // Nothing that is written is above the limit, though the image is longer.
     let ended = on_a_full_disk(&folder, "store t i m --json");
+    assert_eq!(ended.status, Some(0), "{ended:?}");
+    assert!(folder.read("i") == folder.read("t"));
+    // A map of 45,074 bytes, and a limit of 16 or 32 KiB.
+    let folder = Folder::with_backup(&[7; 4_096 * 8], "8", "4");
+    folder.patch("t", 8, &[1]);
+    let ended = folder.shell("trap '' XFSZ; ulimit -f 32; cotelark store t i m --json");
     assert_eq!(ended.status, Some(0), "{ended:?}");
     assert!(folder.read("i") == folder.read("t"));
 }
@@ -77,6 +83,11 @@ fn a_repair_writes_the_symbol_alone() {
     let ended = on_a_full_disk(&folder, "repair i m --json");
     assert_eq!(ended.status, Some(0), "{ended:?}");
     assert!(folder.read("i") == folder.read("t"));
+    // Below the limit is the symbol, and not the end of its page.
+    let long = Folder::with_backup(&[7; 65_536], "65536", "2");
+    long.patch("i", 2, &[1]);
+    let ended = long.shell("trap '' XFSZ; ulimit -f 32; cotelark repair i m --json");
+    assert_eq!(ended.status, Some(0), "{ended:?}");
     folder.patch("i", HIGH * PAGE, &[1]);
     let ended = on_a_full_disk(&folder, "repair i m");
     assert!(ended.status == Some(1) && ended.err.starts_with("cotelark repair: i cannot be written: "), "{ended:?}");
@@ -96,6 +107,11 @@ fn a_beginning_and_a_load_on_a_full_disk_leave_nothing() {
 #[test]
 fn a_load_that_is_stopped_leaves_no_table() {
     let folder = changed();
+    // It is made in the folder that it goes to.
+    std::fs::create_dir(folder.path("d")).expect("a folder");
+    let ended = stopped(&folder, "load i m d/o");
+    assert!(ended.out.ends_with("ended with 153\n"), "{ended:?}");
+    assert!(!folder.path("d/o").exists() && folder.path("d/.cotelark-0.unfinished").exists());
     let ended = stopped(&folder, "load i m o");
     assert!(ended.out.ends_with("ended with 153\n"), "{ended:?}");
     assert!(!folder.path("o").exists() && folder.path(".cotelark-0.unfinished").exists());

@@ -21,6 +21,8 @@ fn a_picture_in_marks_and_colours() {
     assert_eq!(at_a_terminal(&folder, "store t i m"), format!("{figures}{picture}"));
     let ended = folder.shell("export NO_COLOR=1; script --quiet --return --command 'cotelark store t i2 m2' /dev/null < /dev/null");
     assert_eq!(ended.out.replace('\r', ""), format!("{figures}0  ·█\n· kept   █ written\n"));
+    let ended = folder.shell("export NO_COLOR=; script --quiet --return --command 'cotelark check i m' /dev/null < /dev/null");
+    assert!(ended.out.contains("0  \x1b[2m·\x1b[0m"), "an empty NO_COLOR says nothing: {ended:?}");
     let ended = folder.shell("export TERM=dumb; script --quiet --return --command 'cotelark check i m' /dev/null < /dev/null");
     assert_eq!(ended.out.replace('\r', ""), "i checked: 0 of 2 pages damaged\n0  ..\n. whole\n");
 }

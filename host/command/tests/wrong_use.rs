@@ -3,6 +3,7 @@
 mod person;
 
 use person::{failed, Folder, BUCKET};
+use std::collections::BTreeSet;
 
 /// Each subcommand with operands that it takes.
 const USES: [&[&str]; 11] = [
@@ -50,6 +51,10 @@ fn words_that_are_missing_or_too_many() {
     assert_eq!(folder.run_unchanged(&["sign", "t", "--n", "two"]), misuse("sign", "--n is a number, and two is none"));
     assert_eq!(folder.run_unchanged(&["sign", "t", "--page", "4"]), misuse("sign", "there is no option --page"));
     assert_eq!(folder.run_unchanged(&["list", "m", "--json=1"]), misuse("list", "there is no option --json=1"));
+    assert_eq!(folder.run_unchanged(&["list", "m", "--help=1"]), misuse("list", "there is no option --help=1"));
+    assert_eq!(folder.run_unchanged(&["store", "t", "i", "m", "--n", "2"]), misuse("store", "there is no option --n"));
+    assert_eq!(folder.run_unchanged(&["repair", "i", "m", "-1"]), misuse("repair", "there is no option -1"));
+    assert_eq!(folder.run_unchanged(&["sign", "t", "--n="]), misuse("sign", "--n is a number, and '' is none"));
 }
 
 #[test]
@@ -101,6 +106,12 @@ fn files_whose_names_look_like_options() {
     folder.write("--n=2", [0; 2]);
     let signed = folder.run(&["sign", "--", "--n=2"]);
     assert_eq!(signed.out, "--n=2: 2 bytes, 1 symbol, signature 0000 0000 0000 0000\n");
+    assert_eq!(folder.run(&["init", "--", "--n=2", "--i", "--m"]).status, Some(0));
+    folder.write("a=b", [0; 2]);
+    assert_eq!(folder.run(&["sign", "a=b", "--n", "1"]).out, "a=b: 2 bytes, 1 symbol, signature 0000\n");
+    // A name need not be text.
+    let signed = folder.shell("name=$(printf 'a\\377'); printf hi > \"$name\"; cotelark sign \"$name\" --n 1");
+    assert_eq!((signed.status, signed.out.as_str()), (Some(0), "a\u{fffd}: 2 bytes, 1 symbol, signature 6968\n"));
 }
 
 #[test]
@@ -150,8 +161,9 @@ fn a_device_is_not_written() {
     let folder = folder();
     let ended = folder.run_unchanged(&["store", "t", "/dev/null", "m"]);
     assert_eq!(ended, failed(1, "cotelark store: /dev/null is no regular file.\n"));
-    let ended = folder.run_unchanged(&["load", "i", "m", "/dev/null"]);
-    assert_eq!(ended, failed(1, "cotelark load: /dev/null is there already, and nothing is written over it.\n"));
+    assert_eq!(folder.shell("mkfifo pipe").status, Some(0));
+    let ended = folder.run_unchanged(&["load", "i", "m", "pipe"]);
+    assert_eq!(ended, failed(1, "cotelark load: pipe is there already, and nothing is written over it.\n"));
 }
 
 #[test]
@@ -179,6 +191,8 @@ fn the_help() {
     let folder = folder();
     let general = folder.run_unchanged(&["--help"]);
     assert_eq!((general.status, general.err.as_str()), (Some(0), ""));
+    assert_eq!(folder.run_unchanged(&["-h"]), general);
+    let mut abouts = BTreeSet::new();
     for words in USES {
         let name = words[0];
         assert!(general.out.contains(&format!("\n  cotelark {name} ")), "{name}");
@@ -187,9 +201,13 @@ fn the_help() {
             assert_eq!((help.status, help.err.as_str()), (Some(0), ""));
             assert!(help.out.starts_with(&format!("cotelark {name} ")) && help.out.contains("Exit status: 0 done; 1 refused"), "{}", help.out);
             assert!(help.out.lines().all(|line| line.chars().count() <= 80), "{}", help.out);
+            let about = help.out.lines().nth(2).expect("what it does").to_string();
+            assert!(general.out.contains(&format!("\n      {about}\n")), "{about}");
+            abouts.insert(about);
         }
     }
     assert!(general.out.lines().all(|line| line.chars().count() <= 80), "{}", general.out);
+    assert_eq!(abouts.len(), USES.len());
     let store = folder.run(&["store", "--help"]).out;
     assert!(store.contains("Not promised yet"));
 }

@@ -8,7 +8,7 @@ use std::fmt;
 /// use cotelark::{Bytes, Symbols};
 ///
 /// assert_eq!(Bytes(5).symbols(), Symbols(3)); // an odd byte counts as a whole symbol
-/// assert_eq!(Bytes(5).to_string(), "5 bytes");
+/// assert_eq!([Bytes(0), Bytes(1), Bytes(5)].map(|count| count.to_string()), ["0 bytes", "1 byte", "5 bytes"]);
 /// ```
 #[derive(Clone, Copy, Debug, Default, PartialEq, Eq, PartialOrd, Ord, Hash)]
 pub struct Bytes(pub usize);
