@@ -3,7 +3,7 @@
 use crate::failure::Failure;
 use crate::files::{self, InPlace};
 use crate::json::Json;
-use crate::names::{Backup, Names};
+use crate::names::{sizes_of, Backup, Names};
 use crate::picture::{Picture, State};
 use crate::report::{commas, counted, listed, share, shown, Part, Report};
 use crate::words::Words;
@@ -53,9 +53,9 @@ pub fn store(words: &Words) -> Result<Report, Failure> {
     files::all_different(&[table_file, image_file, map_file])?;
     let table = files::read(table_file)?;
     let (mut image, mut map) = (InPlace::open(image_file)?, InPlace::open(map_file)?);
-    let buckets = vec![(table_file, table.len()), (image_file, image.bytes.len())];
-    let names = Names::new(buckets, map_file, &map.bytes)?;
-    let mut list = vec![0; names.sizes.pages];
+    let sizes = sizes_of(map_file, &map.bytes)?;
+    let names = Names { buckets: vec![(table_file, table.len()), (image_file, image.bytes.len())], map: map_file, sizes };
+    let mut list = vec![0; sizes.pages];
     let written = cotelark::store(&table, &mut image.bytes, &mut map.bytes, &mut list).map_err(|refusal| names.refused(refusal))?;
     // No entry before its page is on the disk: so the map stays true, wherever this ends.
     image.write(written.iter().map(|&page| names.page(page)))?;

@@ -4,7 +4,7 @@ use crate::backup::N;
 use crate::failure::Failure;
 use crate::files;
 use crate::json::Json;
-use crate::names::{Backup, Names};
+use crate::names::{sizes_of, Backup};
 use crate::picture::{Picture, State};
 use crate::report::{commas, counted, in_hex, listed, shown, Part, Report};
 use crate::words::Words;
@@ -53,7 +53,7 @@ pub fn check(words: &Words) -> Result<Report, Failure> {
 pub fn list(words: &Words) -> Result<Report, Failure> {
     let map_file = words.file(0);
     let map = files::read(map_file)?;
-    let sizes = Names::new(vec![], map_file, &map)?.sizes;
+    let sizes = sizes_of(map_file, &map)?;
     // A line is a page number of at most four digits and n components, or the sizes.
     let mut room = vec![0; 64 + 32 * sizes.pages];
     let text = cotelark::list_map(&map, &mut room).expect("the room suffices");

@@ -15,16 +15,15 @@ pub struct Names<'a> {
     pub sizes: Sizes,
 }
 
-impl<'a> Names<'a> {
-    /// Reads the map, the one of these files that is no bucket.
-    pub fn new(buckets: Vec<(&'a Path, usize)>, map: &'a Path, map_bytes: &[u8]) -> Result<Names<'a>, Failure> {
-        let sizes = cotelark::read_map(map_bytes).map_err(|refusal| {
-            let advice = "take another copy of it, or make a new backup with `cotelark init`".to_string();
-            Failure::Refused { refusal, of: shown(map), advice }
-        })?;
-        Ok(Names { buckets, map, sizes })
-    }
+/// What a map says, if it keeps its rules.
+pub fn sizes_of(map_file: &Path, map: &[u8]) -> Result<Sizes, Failure> {
+    cotelark::read_map(map).map_err(|refusal| {
+        let advice = "take another copy of it, or make a new backup with `cotelark init`".to_string();
+        Failure::Refused { refusal, of: shown(map_file), advice }
+    })
+}
 
+impl Names<'_> {
     pub fn image(&self) -> &Path {
         self.buckets[self.buckets.len() - 1].0
     }
@@ -59,7 +58,7 @@ impl<'a> Names<'a> {
     }
 }
 
-/// An image and its map, of the same length as far as the map says.
+/// An image and its map, as long as they belong together.
 pub struct Backup<'a> {
     pub image: Vec<u8>,
     pub map: Vec<u8>,
@@ -68,16 +67,20 @@ pub struct Backup<'a> {
 
 impl<'a> Backup<'a> {
     pub fn read(image_file: &'a Path, map_file: &'a Path) -> Result<Backup<'a>, Failure> {
-        Backup::of(image_file, files::read(image_file)?, map_file)
+        let image = files::read(image_file)?;
+        let (map, names) = map_of(image_file, &image, map_file)?;
+        Ok(Backup { image, map, names })
     }
+}
 
-    pub fn of(image_file: &'a Path, image: Vec<u8>, map_file: &'a Path) -> Result<Backup<'a>, Failure> {
-        let map = files::read(map_file)?;
-        let names = Names::new(vec![(image_file, image.len())], map_file, &map)?;
-        // A page number at the count is what the library refuses last.
-        match cotelark::ask_page(&image, &map, names.sizes.pages) {
-            Err(refusal) if refusal != Refusal::PageNo => Err(names.refused(refusal)),
-            _ => Ok(Backup { image, map, names }),
-        }
+/// The map that belongs to an image.
+pub fn map_of<'a>(image_file: &'a Path, image: &[u8], map_file: &'a Path) -> Result<(Vec<u8>, Names<'a>), Failure> {
+    let map = files::read(map_file)?;
+    let sizes = sizes_of(map_file, &map)?;
+    let names = Names { buckets: vec![(image_file, image.len())], map: map_file, sizes };
+    // A page number at the count is what the library refuses last.
+    match cotelark::ask_page(image, &map, sizes.pages) {
+        Err(refusal) if refusal != Refusal::PageNo => Err(names.refused(refusal)),
+        _ => Ok((map, names)),
     }
 }

@@ -3,7 +3,7 @@
 use crate::failure::Failure;
 use crate::files::{self, InPlace};
 use crate::json::Json;
-use crate::names::{Backup, Names};
+use crate::names::{map_of, Names};
 use crate::picture::{Picture, State};
 use crate::report::{commas, counted, listed, named, shown, Part, Report};
 use crate::words::Words;
@@ -31,8 +31,7 @@ pub fn repair(words: &Words) -> Result<Report, Failure> {
     let (image_file, map_file) = (words.file(0), words.file(1));
     files::all_different(&[image_file, map_file])?;
     let mut image = InPlace::open(image_file)?;
-    let Backup { map, names, image: bytes } = Backup::of(image_file, std::mem::take(&mut image.bytes), map_file)?;
-    image.bytes = bytes;
+    let (map, names) = map_of(image_file, &image.bytes, map_file)?;
     let pages = words.k.map_or_else(|| (0..names.sizes.pages).collect(), |k| vec![k]);
     let found = mend(&mut image.bytes, &map, &names, &pages)?;
     image.write(found.repaired.iter().map(|repaired| repaired.symbol(&names)))?;

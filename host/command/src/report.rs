@@ -39,20 +39,20 @@ impl Report {
 
     /// The report for people, as it suits where it goes.
     pub fn text(&self) -> Vec<u8> {
-        let style = style();
+        let terminal = io::stdout().is_terminal();
         let part = |part: &Part| match part {
             Part::Line(line) => format!("{line}\n").into_bytes(),
-            Part::Picture(picture) => picture.draw(style).into_bytes(),
-            Part::Field(bytes) if style == Style::Plain => bytes.clone(),
-            Part::Field(bytes) => in_symbols(bytes).into_bytes(),
+            Part::Picture(picture) => picture.draw(style(terminal)).into_bytes(),
+            Part::Field(bytes) if terminal => in_symbols(bytes).into_bytes(),
+            Part::Field(bytes) => bytes.clone(),
         };
         self.parts.iter().flat_map(part).collect()
     }
 }
 
-fn style() -> Style {
+fn style(terminal: bool) -> Style {
     let variable = |name| std::env::var_os(name).unwrap_or_default();
-    if !io::stdout().is_terminal() || variable("TERM") == "dumb" {
+    if !terminal || variable("TERM") == "dumb" {
         Style::Plain
     } else if variable("NO_COLOR").is_empty() {
         Style::Colours
@@ -68,9 +68,10 @@ pub fn shown(path: &Path) -> String {
         '\'' | '"' | '\\' => letter.to_string(),
         _ => letter.escape_debug().to_string(),
     };
-    match name.is_empty() {
-        true => "''".to_string(),
-        false => name.chars().map(letter).collect(),
+    if name.is_empty() {
+        "''".to_string()
+    } else {
+        name.chars().map(letter).collect()
     }
 }
 

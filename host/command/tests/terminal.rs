@@ -32,4 +32,6 @@ fn a_field_is_shown_as_symbols() {
     let folder = Folder::new();
     folder.write("f", BUCKET);
     assert_eq!(at_a_terminal(&folder, "encode < f"), "0001 0005 0009\n");
+    let ended = folder.shell("export TERM=dumb; script --quiet --return --command 'cotelark encode < f' /dev/null < /dev/null");
+    assert_eq!(ended.out.replace('\r', ""), "0001 0005 0009\n");
 }
