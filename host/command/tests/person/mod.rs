@@ -10,6 +10,7 @@ use std::os::unix::fs::PermissionsExt;
 use std::path::PathBuf;
 use std::process::{Command, Output, Stdio};
 use std::sync::atomic::{AtomicUsize, Ordering};
+use std::time::{SystemTime, UNIX_EPOCH};
 
 pub const COTELARK: &str = env!("CARGO_BIN_EXE_cotelark");
 
@@ -29,7 +30,8 @@ static FOLDERS: AtomicUsize = AtomicUsize::new(0);
 impl Folder {
     pub fn new() -> Folder {
         let number = FOLDERS.fetch_add(1, Ordering::Relaxed);
-        let folder = std::env::temp_dir().join(format!("cotelark-{}-{number}", std::process::id()));
+        let now = SystemTime::now().duration_since(UNIX_EPOCH).map_or(0, |since| since.as_nanos());
+        let folder = std::env::temp_dir().join(format!("cotelark-{now}-{}-{number}", std::process::id()));
         fs::create_dir(&folder).expect("a folder for the test");
         Folder(folder)
     }
@@ -108,7 +110,7 @@ impl Folder {
 
     fn command(&self, program: &str, words: &[&str]) -> Command {
         let mut command = Command::new(program);
-        command.args(words).current_dir(&self.0).env_remove("NO_COLOR");
+        command.args(words).current_dir(&self.0).env_remove("NO_COLOR").env("TERM", "xterm");
         command
     }
 }
