@@ -84,7 +84,9 @@ pub fn create(path: &Path, bytes: &[u8], from: &Path) -> Result<(), Failure> {
     let (unfinished, mut file) = begin(folder, mode).map_err(cannot)?;
     let made = file.write_all(bytes).and_then(|()| file.sync_all()).and_then(|()| place(&unfinished, path));
     remove(&unfinished);
-    made.and_then(|()| File::open(folder)?.sync_all()).map_err(cannot)
+    // The name is on the disk too then, where a folder can be read and synced at all.
+    let _ = File::open(folder).and_then(|folder| folder.sync_all());
+    made.map_err(cannot)
 }
 
 /// A new file in a folder, under a name that no other has.

@@ -96,6 +96,7 @@ mod tests {
         let drawn = picture(66, &[(State::Written, &[1]), (State::Damaged, &[65])]).draw(Style::Plain);
         assert_eq!(drawn, format!(" 0  .W{}\n64  .D\n. kept   W written   D damaged\n", ".".repeat(62)));
         assert_eq!(picture(1_024, &[]).draw(Style::Plain).lines().count(), 17);
+        assert!(picture(100, &[]).draw(Style::Plain).starts_with("  0  ."), "the row's numbers have room for the page count");
     }
 
     #[test]
