@@ -21,7 +21,7 @@ below-both : (b : Bool) (r : Bool) → T (elim b [ true ↦ r | false ↦ false 
 below-both true r t = (tt, t)
 below-both false r t = absurd t
 
-at-below : (f : ℕ → Bool) (n : ℕ) → T (below f n) → (k : ℕ) → k < n → T (f k)
+pub at-below : (f : ℕ → Bool) (n : ℕ) → T (below f n) → (k : ℕ) → k < n → T (f k)
 unfolding below
 at-below f zero t k h = absurd (not-suc-le-zero h)
 at-below f (suc n) t k h =
@@ -48,7 +48,7 @@ module _ (F : Field) (good : Passes F) where
   formed =
       record { wide = leb→le 2 (F .width) (good .wide); degree = eqb→eq (F .polynomial / 2 ^ F .width) 1 (good .degree) }
 
-  α-climbs : (k : ℕ) → k < 2 ^ F .width → α-climbed F k ≡ power F α k
+  pub α-climbs : (k : ℕ) → k < 2 ^ F .width → α-climbed F k ≡ power F α k
   unfolding α-climbed
   α-climbs k h =
       climbed-power F formed (F .width) k (one-element F formed) (α-element F formed) h

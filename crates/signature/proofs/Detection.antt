@@ -19,8 +19,8 @@ use Rattle.signature.specs.Objects.{Octets, symbol, symbols}
 use Rattle.signature.specs.Signatures.{component, signature}
 use Rattle.signature.specs.Differences.{count, differing}
 use Rattle.signature.proofs.Counting.{count-le, count-none}
-use Rattle.signature.proofs.Components.{component-sum}
-use Rattle.signature.proofs.Octets.{difference, difference-element, same-difference}
+use Rattle.components.proofs.Components.{component-sum}
+use Rattle.components.proofs.Octets.{difference, difference-element, same-difference}
 use Rattle.signature.proofs.Vanishing.{present, all-zero}
 
 -- one of the components 1 to n is another

@@ -14,8 +14,8 @@ use Rattle.field.proofs.Products.{Formed}
 use Rattle.signature.specs.Objects.{Octets, symbol, symbols}
 use Rattle.signature.specs.Signatures.{component, signature, edited}
 use Rattle.signature.specs.Edits.{Edited}
-use Rattle.signature.proofs.Components.{component-same, component-sum, component-nothing, component-parts}
-use Rattle.signature.proofs.Octets.{difference, difference-element, same-difference}
+use Rattle.components.proofs.Components.{component-same, component-sum, component-nothing, component-parts}
+use Rattle.components.proofs.Octets.{difference, difference-element, same-difference}
 use Rattle.signature.proofs.Parts.{byte-inside, symbols-whole, symbol-same, symbol-part}
 
 module _ (F : Field) (formed : Formed F) (size : ℕ) (some : 0 < size) (wide : 256 ^ size ≤ 2 ^ F .width) where

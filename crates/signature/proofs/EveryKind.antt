@@ -29,8 +29,8 @@ use Rattle.signature.specs.Differences.{differing}
 use Rattle.signature.specs.Edits.{Edited}
 use Rattle.signature.specs.declared.Signature.{Signature}
 use Rattle.signature.proofs.Handing.{answered-same, answered-handed, answered-tells, answered-below}
-use Rattle.signature.proofs.Octets.{symbol-element}
-use Rattle.signature.proofs.Components.{component-element}
+use Rattle.components.proofs.Octets.{symbol-element}
+use Rattle.components.proofs.Components.{component-element}
 use Rattle.signature.proofs.Parts.{whole-length, symbols-parts}
 use Rattle.signature.proofs.Joining.{join-law}
 use Rattle.signature.proofs.Editing.{edit-law}

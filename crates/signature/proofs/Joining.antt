@@ -8,8 +8,8 @@ use Rattle.field.specs.Field.{Field, Element, _⊕_, product, power, α}
 use Rattle.field.proofs.Products.{Formed}
 use Rattle.signature.specs.Objects.{Octets, symbol, symbols}
 use Rattle.signature.specs.Signatures.{component, signature, joined}
-use Rattle.signature.proofs.Components.{component-same, component-parts}
-use Rattle.signature.proofs.Octets.{symbol-element}
+use Rattle.components.proofs.Components.{component-same, component-parts}
+use Rattle.components.proofs.Octets.{symbol-element}
 use Rattle.signature.proofs.Parts.{symbols-whole, symbols-parts, symbol-first, symbol-second}
 
 module _ (F : Field) (formed : Formed F) (size : ℕ) (some : 0 < size) (wide : 256 ^ size ≤ 2 ^ F .width) where

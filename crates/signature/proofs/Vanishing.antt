@@ -19,9 +19,9 @@ use Rattle.field.proofs.Tests.{Passes, formed}
 use Rattle.field.proofs.Orders.{powers-distinct, power-not-zero, no-zero-divisors}
 use Rattle.signature.specs.Signatures.{total, component}
 use Rattle.signature.specs.Differences.{count}
-use Rattle.signature.proofs.Totals.{total-same, total-sum, total-image}
+use Rattle.components.proofs.Totals.{total-same, total-sum, total-image}
 use Rattle.signature.proofs.Counting.{count-le}
-use Rattle.signature.proofs.Components.{Elements, component-nothing}
+use Rattle.components.proofs.Components.{Elements, component-nothing}
 
 -- a symbol that counts
 abbrev pub present : (ℕ → ℕ) → ℕ → Bool

@@ -1,24 +1,11 @@
 -- The algebraic signature: component j of the symbols p0, p1, .. is the sum over i of pi · α^(ij). A signature is its components by number, from 1.
+pub use Rattle.components.specs.Components.{signature}
+unfoldable pub use Rattle.components.specs.Components.{total, component}
 use Prim.Native.Nat.{ℕ, zero, suc, _*_}
 use mathlib.Core.Bool.{cond}
-use mathlib.Core.List.{List}
 use lib.Dec.{leb}
 use Rattle.field.specs.Field.{Field, _⊕_, product, power, α}
-use Rattle.signature.specs.Objects.{symbol, symbols}
 use Rattle.signature.specs.declared.Signature.{Signature}
-
--- the sum of f 0 to f (m - 1)
-unfoldable pub total : ℕ → (ℕ → ℕ) → ℕ
-total zero f = 0
-total (suc m) f = total m f ⊕ f m
-
--- component j of the m symbols p 0 to p (m - 1)
-unfoldable pub component : Field → ℕ → (ℕ → ℕ) → ℕ → ℕ
-component F m p j = total m (λ i. product F (p i) (power F α (i * j)))
-
--- an object's own signature
-abbrev pub signature : Field → ℕ → List ℕ → ℕ → ℕ
-signature F size bytes j = component F (symbols size bytes) (symbol size bytes) j
 
 -- two parts end to end, the first one of a symbols
 abbrev pub joined : Field → (ℕ → ℕ) → ℕ → (ℕ → ℕ) → ℕ → ℕ

@@ -7,8 +7,8 @@ use native.Mathlib.Omega.{arith}
 use Rattle.field.specs.Field.{GF16, _⊕_, product, power, α}
 use Rattle.field.proofs.Instances.{GF16-formed}
 use Rattle.signature.specs.Objects.{symbol, symbols}
-use Rattle.signature.proofs.Components.{from, from-end, from-start, from-turn}
-use Rattle.signature.proofs.Octets.{GF16-symbol}
+use Rattle.components.proofs.Components.{from, from-end, from-start, from-turn}
+use Rattle.components.proofs.Octets.{GF16-symbol}
 use Rattle.signature.proofs.component.Statement.{statement}
 use Rattle.signature.proofs.component.Tie as tie
 

@@ -10,7 +10,7 @@ use lib.ListN.{length}
 use borrow.Author.Needs.{needs}
 use Rattle.signature.specs.Objects.{symbol, lowFirst}
 use Rattle.signature.proofs.Parts.{low-first-past}
-use Rattle.signature.proofs.Octets.{low-first-lt}
+use Rattle.components.proofs.Octets.{low-first-lt}
 use Rattle.signature.proofs.symbol.Statement.{statement}
 use Rattle.signature.proofs.symbol.Tie as tie
 

@@ -1,0 +1,2 @@
+-- What the contracts of `fold` cite.
+pub mod Folding
