@@ -50,7 +50,7 @@ symbol-none : symbol 2 [] 0 ≡ 0
 unfolding symbol lowFirst
 symbol-none = refl
 
-symbol-past : (bytes : List ℕ) (i : ℕ) → length bytes ≤ i * 2 → symbol 2 bytes i ≡ 0
+pub symbol-past : (bytes : List ℕ) (i : ℕ) → length bytes ≤ i * 2 → symbol 2 bytes i ≡ 0
 symbol-past bytes i h = symbol-same bytes [] i 0 (past-end bytes (i * 2) h) (past-end bytes (suc (i * 2)) (omega (arith, h))) ∙ symbol-none
 
 module _ (R : Relation) where

@@ -120,13 +120,13 @@ fn symbol(object: &[u8], i: usize) -> u64
     low + high * 256
 }
 
-// The sum modulo 1100B hex. How often that goes off is found first: what stands from x^16 on, times the inverse of 1 + x^-4 + x^-13 + x^-15.
+// The sum modulo 1100B hex. How often that goes off is found first: what stands from x^16 on, times the inverse of 1 + x^-4 + x^-13 + x^-15 + x^-16.
 fn reduced(s: u64) -> u16
     ensures { λ r. ⌜ r ≡ Field·reduced GF16 48 s ⌝ }
 {
     let a = s >> 16;
-    let b = a ^ (a >> 4) ^ (a >> 13) ^ (a >> 15);
-    let c = b ^ (b >> 8) ^ (b >> 26) ^ (b >> 30);
+    let b = a ^ (a >> 4) ^ (a >> 13) ^ (a >> 15) ^ (a >> 16);
+    let c = b ^ (b >> 8) ^ (b >> 26) ^ (b >> 30) ^ (b >> 32);
     let d = c ^ (c >> 16);
     let q = d ^ (d >> 32);
     ((s ^ q ^ (q << 1) ^ (q << 3) ^ (q << 12)) % 65536) as u16

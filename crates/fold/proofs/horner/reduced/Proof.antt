@@ -1,14 +1,18 @@
+-- `fold::horner::reduced` meets its contract: it is the quick reduction.
+-- Assumes nothing.
+use native.Mathlib.Omega.{arith}
 use borrow.Author.Needs.{needs}
+use Rattle.field.specs.Field.{_⊕_}
+use Rattle.fold.proofs.Reducing.{first, second, third, fourth, quotient, taken-off, quick}
 use Rattle.fold.proofs.horner.reduced.Statement.{statement}
 use Rattle.fold.proofs.horner.reduced.Tie as tie
-use Rattle.fold.proofs.horner.reduced.Reads as reads
-use Rattle.fold.proofs.horner.reduced.Lts as lts
 
 cast-result : tie.Need-cast-result
 cast-result c = search needs
 
 returns : tie.Need-returns
-returns c = ?
+unfolding first second third fourth quotient taken-off _⊕_
+returns c = quick (c .args .s) (omega arith)
 
 pub reduced-spec : {M : Type 1} → statement M
 reduced-spec = tie.close (tie.spec cast-result returns)

@@ -1,0 +1,122 @@
+-- Sums that are not reduced yet, by Horner's rule: where they start, one turn, and what they come to.
+-- Assumes nothing.
+use mathlib.Core.Path.{_≡_, refl, sym, ap, ap₂, _∙_, subst}
+use mathlib.Core.Logic.{dite, ⊎-elim}
+use mathlib.Core.List.{List}
+use Prim.Native.Nat.{ℕ, zero, suc, _+_, _-_, _*_, _/_, _%_, _^_, _≤_, _<_}
+use native.Mathlib.Nat.{mod-eq-of-lt, mul-lt-mul-of-pos-right, lt-of-lt-of-le, mul-suc, add-assoc, eq-or-lt-of-le, sub-self, mul-zero, add-zero}
+use native.Mathlib.Decide.{decLt}
+use native.Mathlib.Omega.{arith}
+use lib.ListN.{length, getD, List·getD-eq-default}
+use lib.Pow.{pow-pos, pow-add, pow-mono}
+use Rattle.field.specs.Field.{GF16, _⊕_, reduced, product, power, α}
+use Rattle.field.proofs.Sums.{sum-lt, sum-zero}
+use Rattle.field.proofs.Reducing.{reduced-below, zero-product}
+use Rattle.field.proofs.Instances.{GF16-formed}
+use Rattle.components.specs.Objects.{Octets, lowFirst, symbol, symbols}
+use Rattle.components.specs.Components.{signature}
+use Rattle.components.proofs.Components.{from, from-end, from-start, from-turn}
+use Rattle.components.proofs.Octets.{GF16-symbol}
+use Rattle.components.proofs.Windows.{symbol-past}
+use Rattle.fold.specs.Folding.{Stands}
+use Rattle.fold.proofs.Reducing.{step}
+
+-- component j from symbol i on, d symbols after it was reduced
+pub record Sum (object : List ℕ) (j i d s : ℕ) : Type 0 where
+  pub stands : Stands object j i s
+  pub below : s < 2 ^ (16 + j * d)
+
+pub sum-start : (object : List ℕ) (j i s r : ℕ) → Stands object j i s → r ≡ reduced GF16 48 s → r < 65536 → Sum object j i (i - i) r
+sum-start object j i s r stood e small =
+    record {
+      stands = record { stands = reduced-below GF16 48 small ∙ e ∙ stood .stands };
+      below = subst (λ (n : ℕ). r < 2 ^ n) (sym (ap (λ (n : ℕ). 16 + j * n) (sub-self i) ∙ ap (λ (n : ℕ). 16 + n) (mul-zero j))) small;
+    }
+
+module _ (object : List ℕ) (octets : Octets object) where
+  pub sum-turn : (j i d s x : ℕ) → 1 ≤ j → j ≤ 4 → j * suc d ≤ 48 → i < symbols 2 object → x ≡ symbol 2 object i → Sum object j (suc i) d s
+      → Sum object j i (suc d) (s * 2 ^ j % 2 ^ 64 ⊕ x)
+  unfolding from
+  sum-turn j i d s x one four few inside here sum =
+      record {
+        stands = record {
+          stands =
+              step j one four s x short small
+              ∙ ap₂ (λ (y z : ℕ). y ⊕ product GF16 z (power GF16 α j)) here (sum .stands .stands)
+              ∙ from-turn GF16 GF16-formed (symbols 2 object) (symbol 2 object) j i inside (GF16-symbol object octets);
+        };
+        below = sum-lt (16 + j * suc d) (subst (λ (n : ℕ). n < 2 ^ (16 + j * suc d)) (sym (mod-eq-of-lt room)) grown) (lt-of-lt-of-le small (pow-mono more));
+      }
+    where
+      small : x < 2 ^ 16
+      small = subst (λ (n : ℕ). n < 2 ^ 16) (sym here) (GF16-symbol object octets i)
+
+      count : j * suc d ≡ j * d + j
+      count = mul-suc j d
+
+      short : s < 2 ^ (64 - j)
+      short = lt-of-lt-of-le (sum .below) (pow-mono (omega (arith, few, count)))
+
+      more : 16 ≤ 16 + j * suc d
+      more = omega arith
+
+      grown : s * 2 ^ j < 2 ^ (16 + j * suc d)
+      grown =
+          subst (λ (n : ℕ). s * 2 ^ j < n) (sym (pow-add 2 (16 + j * d) j) ∙ ap (λ (n : ℕ). 2 ^ n) (add-assoc 16 (j * d) j ∙ ap (λ (n : ℕ). 16 + n) (sym count)))
+          (mul-lt-mul-of-pos-right (sum .below) (pow-pos j))
+
+      top : 16 + j * suc d ≤ 64
+      top = omega (arith, few)
+
+      room : s * 2 ^ j < 2 ^ 64
+      room = lt-of-lt-of-le grown (pow-mono top)
+
+  -- the same, counted down from the top
+  pub sum-next : (j top i s x : ℕ) → 1 ≤ j → j ≤ 4 → 0 < i → i ≤ top → j * suc (top - i) ≤ 48 → i ≤ symbols 2 object → x ≡ symbol 2 object (i - 1)
+      → Sum object j i (top - i) s → Sum object j (i - 1) (top - (i - 1)) (s * 2 ^ j % 2 ^ 64 ⊕ x)
+  sum-next j top i s x one four some h few inside here sum =
+      subst (λ (d : ℕ). Sum object j (i - 1) d (s * 2 ^ j % 2 ^ 64 ⊕ x)) further
+      (sum-turn j (i - 1) (top - i) s x one four few within here (subst (λ (n : ℕ). Sum object j n (top - i) s) this sum))
+    where
+      this : i ≡ suc (i - 1)
+      this = omega (arith, some)
+
+      further : suc (top - i) ≡ top - (i - 1)
+      further = omega (arith, some, h)
+
+      within : i - 1 < symbols 2 object
+      within = omega (arith, some, inside)
+
+  -- before the first turn: an odd last byte is a symbol
+  pub stands-last : (j s : ℕ) → s ≡ symbol 2 object (length object / 2) → Stands object j (length object / 2) s
+  unfolding from
+  stands-last j s here =
+      record { stands = reduced-below GF16 48 (subst (λ (n : ℕ). n < 2 ^ 16) (sym here) (GF16-symbol object octets (length object / 2))) ∙ here ∙ last }
+    where
+      last : symbol 2 object (length object / 2) ≡ from GF16 (symbols 2 object) (symbol 2 object) j (length object / 2)
+      last =
+          dite (decLt (length object / 2) (symbols 2 object))
+          (λ (h : length object / 2 < symbols 2 object).
+          sym (sum-zero (symbol 2 object (length object / 2)))
+          ∙ ap (λ (x : ℕ). symbol 2 object (length object / 2) ⊕ x)
+          (sym (ap (λ (x : ℕ). product GF16 x (power GF16 α j)) (ap (from GF16 (symbols 2 object) (symbol 2 object) j) (odd h) ∙ from-end GF16 (symbols 2 object) (symbol 2 object) j)
+          ∙ zero-product GF16 (power GF16 α j)))
+          ∙ from-turn GF16 GF16-formed (symbols 2 object) (symbol 2 object) j (length object / 2) h (GF16-symbol object octets))
+          (λ h.
+          symbol-past object (length object / 2) (omega (arith, h))
+          ∙ sym (ap (from GF16 (symbols 2 object) (symbol 2 object) j) (even h) ∙ from-end GF16 (symbols 2 object) (symbol 2 object) j))
+        where
+          odd : length object / 2 < symbols 2 object → suc (length object / 2) ≡ symbols 2 object
+          odd h = omega (arith, h)
+
+          even : (length object / 2 < symbols 2 object → ⊥) → length object / 2 ≡ symbols 2 object
+          even h = omega (arith, h)
+
+-- after the last turn
+pub stands-all : (object : List ℕ) (j : ℕ) {i s r : ℕ} → i ≡ 0 → r ≡ reduced GF16 48 s → Stands object j i s → r ≡ signature GF16 2 object j
+unfolding from
+stands-all object j {i} {s} none e stood =
+    e
+    ∙ stood .stands
+    ∙ ap (from GF16 (symbols 2 object) (symbol 2 object) j) none
+    ∙ from-start GF16 (symbols 2 object) (symbol 2 object) j
