@@ -1,52 +1,75 @@
+-- `fold::horner::two` meets its contract. The invariant: the sums stand for the symbols from `at` on, and whole blocks are left below.
+-- Assumes nothing.
+use mathlib.Core.Path.{_≡_, ap₂, subst}
+use Prim.Native.Nat.{ℕ, _+_, _-_, _*_, _/_, _%_, _≤_, _<_}
+use native.Mathlib.Omega.{arith}
+use lib.ListN.{length}
+use Rattle.fold.specs.Folding.{Stands}
+use Rattle.fold.proofs.Sums.{stands-last, stands-all}
 use Rattle.fold.proofs.horner.two.Statement.{statement}
 use Rattle.fold.proofs.horner.two.Tie as tie
-use Rattle.fold.proofs.horner.two.Reads as reads
-use Rattle.fold.proofs.horner.two.Lts as lts
-use Rattle.fold.proofs.horner.odd_byte.Reads as odd-byte-reads
-use Rattle.fold.proofs.horner.reduced.Reads as reduced-reads
-use Rattle.fold.proofs.horner.two_down.Reads as two-down-reads
 
 abbrev Inv-loop : tie.InvT-loop
-Inv-loop object last s₀ at₀ s at = ?
+Inv-loop object last s₀ at₀ s at =
+    (at % 24 ≡ 0) × (at * 2 ≤ length object) × Stands object 1 at (s .s1) × Stands object 2 at (s .s2)
 
 abbrev μ-loop : tie.MeasureT-loop
-μ-loop object last s₀ at₀ s at = ?
+μ-loop object last s₀ at₀ s at = at
 
 odd-byte-requires : tie.Need-odd-byte-requires Inv-loop μ-loop
-odd-byte-requires c κs = ?
+odd-byte-requires c κs = tt
 
 mul-at : tie.Need-mul-at Inv-loop μ-loop
-mul-at c = ?
+mul-at c = omega arith
 
 two-down-requires : tie.Need-two-down-requires Inv-loop μ-loop
-two-down-requires c κs = ?
+two-down-requires c κs =
+    (
+      omega arith,
+      omega arith,
+      omega arith,
+      stands-last (c .before .before .args .object .now) (λ i. c .before .shared-slice-known .given i .fits) 1 _ (c .odd-byte .ensures),
+      stands-last (c .before .before .args .object .now) (λ i. c .before .shared-slice-known .given i .fits) 2 _ (c .odd-byte .ensures),
+    )
 
 loop-holds : tie.Need-loop-holds Inv-loop μ-loop
-loop-holds c = ?
+loop-holds c = (omega arith, omega arith, c .two-down .ensures .0, c .two-down .ensures .1)
 
 sub-at : tie.Need-sub-at Inv-loop μ-loop
-sub-at c = ?
+sub-at c = omega arith
 
 add-two-down : tie.Need-add-two-down Inv-loop μ-loop
-add-two-down c = ?
+add-two-down c = omega arith
 
 two-down-requires-2 : tie.Need-two-down-requires-2 Inv-loop μ-loop
-two-down-requires-2 c κs = ?
+two-down-requires-2 c κs =
+    let at : _ = c .before .loop in
+    let top : at .at ≡ at .at - 24 + 24 = omega arith in (
+      omega arith,
+      omega arith,
+      omega arith,
+      subst (λ (n : ℕ). Stands (c .before .before .before .before .before .args .object .now) 1 n (at .s .s1)) top (at .inv .2),
+      subst (λ (n : ℕ). Stands (c .before .before .before .before .before .args .object .now) 2 n (at .s .s2)) top (at .inv .3),
+    )
 
 loop-less : tie.Need-loop-less Inv-loop μ-loop
-loop-less c = ?
+loop-less c = omega arith
 
 loop-again : tie.Need-loop-again Inv-loop μ-loop
-loop-again c = ?
+loop-again c = (omega arith, omega arith, c .two-down2 .ensures .0, c .two-down2 .ensures .1)
 
 reduced-requires : tie.Need-reduced-requires Inv-loop μ-loop
-reduced-requires c κs = ?
+reduced-requires c κs = tt
 
 reduced-requires-2 : tie.Need-reduced-requires-2 Inv-loop μ-loop
-reduced-requires-2 c κs = ?
+reduced-requires-2 c κs = tt
 
 returns : tie.Need-returns Inv-loop μ-loop
-returns c = ?
+returns c =
+    let at : _ = c .before .before .before .loop in
+    let none : at .at ≡ 0 = omega arith in
+    let object : _ = c .before .before .before .before .before .before .before .args .object .now in
+    ap₂ (λ (x y : ℕ). record { s1 = x; s2 = y }) (stands-all object 1 none (c .before .reduced .ensures) (at .inv .2)) (stands-all object 2 none (c .reduced2 .ensures) (at .inv .3))
 
 pub two-spec : {M : Type 1} → statement M
 two-spec =
