@@ -1,11 +1,13 @@
 -- What stands in a window when a page is taken in down to place `at`: symbols of the same components as the page has from there on.
 -- Assumes nothing.
 use mathlib.Core.Path.{_≡_, refl, sym, ap, ap₂, _∙_, subst}
+use mathlib.Core.Logic.{dite}
 use mathlib.Core.List.{List}
 use Prim.Native.Nat.{ℕ, zero, suc, _+_, _-_, _*_, _/_, _%_, _≤_, _<_}
 use native.Mathlib.Nat.{div-add-mod', mod-lt, suc-mul}
 use native.Mathlib.Omega.{arith}
-use lib.ListN.{length, getD, take, drop, length-take, length-drop}
+use native.Mathlib.Decide.{decLt}
+use lib.ListN.{length, getD, take, drop, replicate, length-take, length-drop, length-replicate, getD-replicate, List·getD-eq-default}
 use lib.Seq.{drop-drop, take-length}
 use Rattle.field.specs.Field.{GF16, _⊕_, product, power, α}
 use Rattle.components.specs.Objects.{Octets, symbols}
@@ -17,7 +19,7 @@ use Rattle.components.proofs.Windows.{left, first-block, further-block, landed,
 use Rattle.components.proofs.Relations.{Keeps, holds, pairFar-keeps, pairNear-keeps, fourFar-keeps, fourNear-keeps}
 use Rattle.fold.specs.declared.Relation.{Relation}
 use Rattle.fold.specs.declared.Relation.the-variants.{PairFar, PairNear, FourFar, FourNear}
-use Rattle.fold.specs.Folding.{known, upTo, reach, Fits, Kept}
+use Rattle.fold.specs.Folding.{known, upTo, reach, Blank, Fits, Kept, two, four}
 
 keeps : (r : Relation) → Keeps (upTo r) (known r)
 keeps PairFar = pairFar-keeps
@@ -95,3 +97,27 @@ standing-landed r page window after {at} none octets whole stood land =
           ∙ stood .stands j one h
           ∙ ap (λ (i : ℕ). signature GF16 2 (drop i page) j) none;
     }
+
+-- ---- windows as they are lent, and what is kept of an object
+
+zeros : (n k : ℕ) → _≡_ {A = ℕ} (getD (replicate n 0) k 0) 0
+zeros n k =
+    dite (decLt k n) (λ (h : k < n). getD-replicate n k 0 0 h) (λ h. List·getD-eq-default (replicate n 0) 0 (omega (arith, h, length-replicate {A = ℕ} n 0)))
+
+pub blank : (n : ℕ) → Blank n (replicate n 0)
+blank n = record { all = length-replicate n 0; zeros = zeros n }
+
+pub fitting : (r : Relation) (block n : ℕ) → n ≡ (block + known r .distance) * 2 → 0 < block → known r .distance ≤ block → Fits r (replicate n 0)
+fitting r block n whole some roomy =
+    record { block = block; whole = length-replicate n 0 ∙ whole; some = some; roomy = roomy; zeros = zeros n }
+
+pub two-kept : (r : Relation) (page left : List ℕ) → 2 ≤ upTo r → Kept r page left → two left ≡ two page
+two-kept r page left enough k =
+    ap₂ (λ (x y : ℕ). record { s1 = x; s2 = y }) (k .kept 1 (omega arith) (omega (arith, enough))) (k .kept 2 (omega arith) enough)
+
+pub four-kept : (r : Relation) (page left : List ℕ) → 4 ≤ upTo r → Kept r page left → four left ≡ four page
+four-kept r page left enough k =
+    ap₂ (λ (x y : ℕ). record { s1 = x; s2 = y; s3 = signature GF16 2 left 3; s4 = signature GF16 2 left 4 })
+    (k .kept 1 (omega arith) (omega (arith, enough))) (k .kept 2 (omega arith) (omega (arith, enough)))
+    ∙ ap₂ (λ (x y : ℕ). record { s1 = signature GF16 2 page 1; s2 = signature GF16 2 page 2; s3 = x; s4 = y })
+    (k .kept 3 (omega arith) (omega (arith, enough))) (k .kept 4 (omega arith) enough)

@@ -1,0 +1,30 @@
+-- `fold::two_near` meets its contract: what the fold leaves has the same components.
+-- Assumes nothing.
+use mathlib.Core.Path.{_∙_}
+use native.Mathlib.Omega.{arith}
+use borrow.Author.Needs.{needs}
+use Rattle.fold.specs.declared.Relation.the-variants.{PairNear}
+use Rattle.fold.proofs.Standing.{blank, fitting, two-kept}
+use Rattle.fold.proofs.two_near.Statement.{statement}
+use Rattle.fold.proofs.two_near.Tie as tie
+
+slice-aggregate-fold : tie.Need-slice-aggregate-fold
+slice-aggregate-fold c = search needs
+
+slice-aggregate-fold-2 : tie.Need-slice-aggregate-fold-2
+slice-aggregate-fold-2 c = search needs
+
+fold-requires : tie.Need-fold-requires
+fold-requires c κs = (fitting PairNear 512 1280 (omega arith) (omega arith) (omega arith), blank 256)
+
+slice-aggregate-two : tie.Need-slice-aggregate-two
+slice-aggregate-two c = search needs
+
+two-requires : tie.Need-two-requires
+two-requires c κs = search needs
+
+returns : tie.Need-returns
+returns c = c .two .ensures ∙ two-kept PairNear _ _ (omega arith) (c .before .before .before .before .fold .ensures)
+
+pub two-near-spec : {M : Type 1} → statement M
+two-near-spec = tie.close (tie.spec slice-aggregate-fold slice-aggregate-fold-2 fold-requires slice-aggregate-two two-requires returns)
