@@ -40,7 +40,6 @@ block-below (suc blocks) block some = ap (λ (n : ℕ). n * block + block) less 
   where
     less : suc blocks - 1 ≡ blocks
     less = omega arith
-
 block-below zero block some = absurd (omega (arith, some))
 
 -- a slice from a place on

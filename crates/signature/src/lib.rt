@@ -1,6 +1,6 @@
 // The algebraic signature of an object: signing it, joining the signatures of its two parts, and editing a signature where bytes were replaced.
 ghost use mathlib.Core.Path.{_≡_};
-ghost use Prim.Native.Nat.{_+_, _*_};
+ghost use Prim.Native.Nat.{_+_, _*_, _<_};
 ghost use lib.ListN.{getD};
 ghost use Rattle.units.specs.Sizes.{objectAllowed};
 ghost use Rattle.units.specs.Writing.{partPut};
@@ -106,23 +106,41 @@ fn fits(a: Symbols, b: Symbols) -> bool
     b.count <= units::OBJECT_SYMBOLS_MOST - a.count
 }
 
-// An object's own signature, of any length.
+// An object's own signature, of any length. Components above n are not asked for.
 pub fn own(n: usize, object: &[u8]) -> Signature
     ensures { λ r. ⌜ r ≡ Object·own wide n (now (object .entry)) ⌝ }
 {
+    if n > 2 {
+        return own_four(n, object);
+    }
+    let s = fold::first_two(object);
     Signature {
         n,
-        s1: component_up_to(n, 1, object),
-        s2: component_up_to(n, 2, object),
-        s3: component_up_to(n, 3, object),
-        s4: component_up_to(n, 4, object),
+        s1: up_to(n, 1, s.s1),
+        s2: up_to(n, 2, s.s2),
+        s3: 0,
+        s4: 0,
     }
 }
 
-fn component_up_to(n: usize, j: usize, object: &[u8]) -> u16
-    ensures { λ r. ⌜ r ≡ upTo n j (Object·signature GF16 2 (now (object .entry)) j) ⌝ }
+fn own_four(n: usize, object: &[u8]) -> Signature
+    requires { ⌜ 2 < n ⌝ }
+    ensures { λ r. ⌜ r ≡ Object·own wide n (now (object .entry)) ⌝ }
 {
-    if n < j { 0 } else { component(j, object) }
+    let s = fold::first_four(object);
+    Signature {
+        n,
+        s1: s.s1,
+        s2: s.s2,
+        s3: s.s3,
+        s4: up_to(n, 4, s.s4),
+    }
+}
+
+fn up_to(n: usize, j: usize, x: u16) -> u16
+    ensures { λ r. ⌜ r ≡ upTo n j x ⌝ }
+{
+    if n < j { 0 } else { x }
 }
 
 // The sum of two objects' own signatures.
@@ -161,32 +179,6 @@ fn component_added(n: usize, j: usize, x: u16, at: Symbols, y: u16) -> u16
     } else {
         field::sum(x, field::times_power(y, units::exponent_of(j, at)))
     }
-}
-
-// Horner's rule, from the last symbol down: what stands behind a symbol is moved by one.
-fn component(j: usize, object: &[u8]) -> u16
-    ensures { λ r. ⌜ r ≡ Object·signature GF16 2 (now (object .entry)) j ⌝ }
-{
-    let mut s: u16 = 0;
-    let mut i = symbols_in(object).count;
-    while i > 0 {
-        i -= 1;
-        s = field::sum(symbol(object, Symbols { count: i }), doubled(j, s));
-    }
-    s
-}
-
-// s · α^j
-fn doubled(j: usize, s: u16) -> u16
-    ensures { λ r. ⌜ r ≡ Field·product GF16 s (Field·power GF16 α j) ⌝ }
-{
-    let mut r = s;
-    let mut left = j;
-    while left > 0 {
-        r = field::double(r);
-        left -= 1;
-    }
-    r
 }
 
 // The symbol at a place, and zero past the end.

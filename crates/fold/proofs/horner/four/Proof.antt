@@ -28,16 +28,15 @@ mul-at : tie.Need-mul-at Inv-loop μ-loop
 mul-at c = omega arith
 
 four-down-requires : tie.Need-four-down-requires Inv-loop μ-loop
-four-down-requires c κs =
-    (
-      omega arith,
-      omega arith,
-      omega arith,
-      stands-last (c .before .before .args .object .now) (λ i. c .before .shared-slice-known .given i .fits) 1 _ (c .odd-byte .ensures),
-      stands-last (c .before .before .args .object .now) (λ i. c .before .shared-slice-known .given i .fits) 2 _ (c .odd-byte .ensures),
-      stands-last (c .before .before .args .object .now) (λ i. c .before .shared-slice-known .given i .fits) 3 _ (c .odd-byte .ensures),
-      stands-last (c .before .before .args .object .now) (λ i. c .before .shared-slice-known .given i .fits) 4 _ (c .odd-byte .ensures),
-    )
+four-down-requires c κs = (
+  omega arith,
+  omega arith,
+  omega arith,
+  stands-last (c .before .before .args .object .now) (λ i. c .before .shared-slice-known .given i .fits) 1 _ (c .odd-byte .ensures),
+  stands-last (c .before .before .args .object .now) (λ i. c .before .shared-slice-known .given i .fits) 2 _ (c .odd-byte .ensures),
+  stands-last (c .before .before .args .object .now) (λ i. c .before .shared-slice-known .given i .fits) 3 _ (c .odd-byte .ensures),
+  stands-last (c .before .before .args .object .now) (λ i. c .before .shared-slice-known .given i .fits) 4 _ (c .odd-byte .ensures),
+)
 
 loop-holds : tie.Need-loop-holds Inv-loop μ-loop
 loop-holds c = (omega arith, omega arith, c .four-down .ensures .0, c .four-down .ensures .1, c .four-down .ensures .2, c .four-down .ensures .3)

@@ -41,15 +41,14 @@ cast-s4 : tie.Need-cast-s4 Inv-loop μ-loop
 cast-s4 c = omega arith
 
 loop-holds : tie.Need-loop-holds Inv-loop μ-loop
-loop-holds c =
-    (
-      omega arith,
-      c .before .before .before .before .before .pre .0,
-      sum-start (c .before .before .before .before .before .args .object .now) 1 (c .before .before .before .before .before .args .top) (c .before .before .before .before .before .args .s .s1) _ (c .before .before .before .before .before .pre .3) (c .before .before .before .reduced .ensures) (omega arith),
-      sum-start (c .before .before .before .before .before .args .object .now) 2 (c .before .before .before .before .before .args .top) (c .before .before .before .before .before .args .s .s2) _ (c .before .before .before .before .before .pre .4) (c .before .before .reduced2 .ensures) (omega arith),
-      sum-start (c .before .before .before .before .before .args .object .now) 3 (c .before .before .before .before .before .args .top) (c .before .before .before .before .before .args .s .s3) _ (c .before .before .before .before .before .pre .5) (c .before .reduced3 .ensures) (omega arith),
-      sum-start (c .before .before .before .before .before .args .object .now) 4 (c .before .before .before .before .before .args .top) (c .before .before .before .before .before .args .s .s4) _ (c .before .before .before .before .before .pre .6) (c .reduced4 .ensures) (omega arith),
-    )
+loop-holds c = (
+  omega arith,
+  c .before .before .before .before .before .pre .0,
+  sum-start (c .before .before .before .before .before .args .object .now) 1 (c .before .before .before .before .before .args .top) (c .before .before .before .before .before .args .s .s1) _ (c .before .before .before .before .before .pre .3) (c .before .before .before .reduced .ensures) (omega arith),
+  sum-start (c .before .before .before .before .before .args .object .now) 2 (c .before .before .before .before .before .args .top) (c .before .before .before .before .before .args .s .s2) _ (c .before .before .before .before .before .pre .4) (c .before .before .reduced2 .ensures) (omega arith),
+  sum-start (c .before .before .before .before .before .args .object .now) 3 (c .before .before .before .before .before .args .top) (c .before .before .before .before .before .args .s .s3) _ (c .before .before .before .before .before .pre .5) (c .before .reduced3 .ensures) (omega arith),
+  sum-start (c .before .before .before .before .before .args .object .now) 4 (c .before .before .before .before .before .args .top) (c .before .before .before .before .before .args .s .s4) _ (c .before .before .before .before .before .pre .6) (c .reduced4 .ensures) (omega arith),
+)
 
 sub-i : tie.Need-sub-i Inv-loop μ-loop
 sub-i c = omega arith

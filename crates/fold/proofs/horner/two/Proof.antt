@@ -23,14 +23,13 @@ mul-at : tie.Need-mul-at Inv-loop μ-loop
 mul-at c = omega arith
 
 two-down-requires : tie.Need-two-down-requires Inv-loop μ-loop
-two-down-requires c κs =
-    (
-      omega arith,
-      omega arith,
-      omega arith,
-      stands-last (c .before .before .args .object .now) (λ i. c .before .shared-slice-known .given i .fits) 1 _ (c .odd-byte .ensures),
-      stands-last (c .before .before .args .object .now) (λ i. c .before .shared-slice-known .given i .fits) 2 _ (c .odd-byte .ensures),
-    )
+two-down-requires c κs = (
+  omega arith,
+  omega arith,
+  omega arith,
+  stands-last (c .before .before .args .object .now) (λ i. c .before .shared-slice-known .given i .fits) 1 _ (c .odd-byte .ensures),
+  stands-last (c .before .before .args .object .now) (λ i. c .before .shared-slice-known .given i .fits) 2 _ (c .odd-byte .ensures),
+)
 
 loop-holds : tie.Need-loop-holds Inv-loop μ-loop
 loop-holds c = (omega arith, omega arith, c .two-down .ensures .0, c .two-down .ensures .1)

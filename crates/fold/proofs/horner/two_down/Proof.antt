@@ -29,13 +29,12 @@ cast-s2 : tie.Need-cast-s2 Inv-loop μ-loop
 cast-s2 c = omega arith
 
 loop-holds : tie.Need-loop-holds Inv-loop μ-loop
-loop-holds c =
-    (
-      omega arith,
-      c .before .before .before .pre .0,
-      sum-start (c .before .before .before .args .object .now) 1 (c .before .before .before .args .top) (c .before .before .before .args .s .s1) _ (c .before .before .before .pre .3) (c .before .reduced .ensures) (omega arith),
-      sum-start (c .before .before .before .args .object .now) 2 (c .before .before .before .args .top) (c .before .before .before .args .s .s2) _ (c .before .before .before .pre .4) (c .reduced2 .ensures) (omega arith),
-    )
+loop-holds c = (
+  omega arith,
+  c .before .before .before .pre .0,
+  sum-start (c .before .before .before .args .object .now) 1 (c .before .before .before .args .top) (c .before .before .before .args .s .s1) _ (c .before .before .before .pre .3) (c .before .reduced .ensures) (omega arith),
+  sum-start (c .before .before .before .args .object .now) 2 (c .before .before .before .args .top) (c .before .before .before .args .s .s2) _ (c .before .before .before .pre .4) (c .reduced2 .ensures) (omega arith),
+)
 
 sub-i : tie.Need-sub-i Inv-loop μ-loop
 sub-i c = omega arith
