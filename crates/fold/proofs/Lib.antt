@@ -3,5 +3,3 @@ pub mod Turns
 pub mod Settings
 pub mod Landings
 pub mod Standing
-pub mod Reducing
-pub mod Sums

@@ -17,9 +17,10 @@ use Rattle.components.specs.Windows.{Down, Raised, Landed}
 use Rattle.components.proofs.Octets.{drop-octets}
 use Rattle.components.proofs.Windows.{left, first-block, further-block, landed, signature-parts}
 use Rattle.components.proofs.Relations.{Keeps, holds, pairFar-keeps, pairNear-keeps, fourFar-keeps, fourNear-keeps}
+use Rattle.horner.specs.Sums.{two, four}
 use Rattle.fold.specs.declared.Relation.{Relation}
 use Rattle.fold.specs.declared.Relation.the-variants.{PairFar, PairNear, FourFar, FourNear}
-use Rattle.fold.specs.Folding.{known, upTo, reach, Blank, Fits, Kept, two, four}
+use Rattle.fold.specs.Folding.{known, upTo, reach, Blank, Fits, Kept}
 
 keeps : (r : Relation) → Keeps (upTo r) (known r)
 keeps PairFar = pairFar-keeps

@@ -1,16 +1,13 @@
--- The relations by their names in the code, and what two and four components of an object are.
+-- The relations by their names in the code, and what the loops that fold ask for and give.
 use mathlib.Core.Path.{_≡_}
-use Prim.Native.Nat.{ℕ, _+_, _-_, _*_, _≤_, _<_}
+use Prim.Native.Nat.{ℕ, _+_, _*_, _≤_, _<_}
 use mathlib.Core.List.{List}
 use lib.ListN.{length, getD, take}
-use Rattle.field.specs.Field.{GF16, _⊕_, reduced}
-use Rattle.components.specs.Objects.{symbol, symbols}
-use Rattle.components.specs.Components.{component, signature}
+use Rattle.field.specs.Field.{GF16, _⊕_}
+use Rattle.components.specs.Components.{signature}
 use Rattle.components.specs.Relations as Known
 use Rattle.fold.specs.declared.Relation.{Relation}
 use Rattle.fold.specs.declared.Relation.the-variants.{PairFar, PairNear, FourFar, FourNear}
-use Rattle.fold.specs.declared.Two.{Two}
-use Rattle.fold.specs.declared.Four.{Four}
 
 abbrev pub known : Relation → Known.Relation
 known PairFar = Known.pairFar
@@ -28,13 +25,6 @@ upTo FourNear = 4
 -- the bytes that it leaves
 abbrev pub reach : Relation → ℕ
 reach r = known r .distance * 2
-
-abbrev pub two : List ℕ → Two
-two object = record { s1 = signature GF16 2 object 1; s2 = signature GF16 2 object 2 }
-
-abbrev pub four : List ℕ → Four
-four object =
-    record { s1 = signature GF16 2 object 1; s2 = signature GF16 2 object 2; s3 = signature GF16 2 object 3; s4 = signature GF16 2 object 4 }
 
 -- ---- the loops
 
@@ -58,9 +48,3 @@ pub record Kept (r : Relation) (page left : List ℕ) : Type 0 where
 -- what a window holds from one place to another, added to the first bytes; past the other place there count zeros
 pub record Added (window : List ℕ) (from to : ℕ) (before after : List ℕ) : Type 0 where
   pub added : (k : ℕ) → getD after k 0 ≡ getD before k 0 ⊕ getD (take to window) (k + from) 0
-
--- ---- sums that are not reduced yet
-
--- s reduced is component j of the symbols from i on
-pub record Stands (object : List ℕ) (j i s : ℕ) : Type 0 where
-  pub stands : reduced GF16 48 s ≡ component GF16 (symbols 2 object - i) (λ k. symbol 2 object (i + k)) j

@@ -6,11 +6,13 @@ ghost use Rattle.field.specs.Field.{GF16};
 ghost use Rattle.components.specs.Components.{signature};
 ghost use Rattle.components.specs.Windows.{Raised};
 ghost use Rattle.fold.specs.Folding.{upTo, reach, Blank, Fits, Kept};
-ghost use Rattle.fold.specs.Folding.{two as Object·two, four as Object·four};
+ghost use Rattle.horner.specs.Sums.{two, four};
 
-mod horner;
 mod landing;
 mod taking;
+
+use horner::Four;
+use horner::Two;
 
 // Relations of α, for two components and for four: a far one for long objects, a near one for what it leaves.
 pub enum Relation {
@@ -20,24 +22,12 @@ pub enum Relation {
     FourNear,
 }
 
-pub struct Two {
-    pub s1: u16,
-    pub s2: u16,
-}
-
-pub struct Four {
-    pub s1: u16,
-    pub s2: u16,
-    pub s3: u16,
-    pub s4: u16,
-}
-
 // Components 1 and 2.
 pub fn first_two(object: &[u8]) -> Two
-    ensures { λ r. ⌜ r ≡ Object·two (now (object .entry)) ⌝ }
+    ensures { λ r. ⌜ r ≡ two (now (object .entry)) ⌝ }
 {
     if object.len() <= 256 {
-        return horner::two(object);
+        return horner::first_two(object);
     }
     if object.len() <= 1024 {
         return two_near(object);
@@ -46,7 +36,7 @@ pub fn first_two(object: &[u8]) -> Two
 }
 
 fn two_far(object: &[u8]) -> Two
-    ensures { λ r. ⌜ r ≡ Object·two (now (object .entry)) ⌝ }
+    ensures { λ r. ⌜ r ≡ two (now (object .entry)) ⌝ }
 {
     let mut window = [0u8; 5034];
     let mut left = [0u8; 938];
@@ -55,20 +45,20 @@ fn two_far(object: &[u8]) -> Two
 }
 
 fn two_near(object: &[u8]) -> Two
-    ensures { λ r. ⌜ r ≡ Object·two (now (object .entry)) ⌝ }
+    ensures { λ r. ⌜ r ≡ two (now (object .entry)) ⌝ }
 {
     let mut window = [0u8; 1280];
     let mut left = [0u8; 256];
     fold(Relation::PairNear, object, &mut window, &mut left);
-    horner::two(&left)
+    horner::first_two(&left)
 }
 
 // Components 1 to 4.
 pub fn first_four(object: &[u8]) -> Four
-    ensures { λ r. ⌜ r ≡ Object·four (now (object .entry)) ⌝ }
+    ensures { λ r. ⌜ r ≡ four (now (object .entry)) ⌝ }
 {
     if object.len() <= 188 {
-        return horner::four(object);
+        return horner::first_four(object);
     }
     if object.len() <= 1592 {
         return four_near(object);
@@ -77,7 +67,7 @@ pub fn first_four(object: &[u8]) -> Four
 }
 
 fn four_far(object: &[u8]) -> Four
-    ensures { λ r. ⌜ r ≡ Object·four (now (object .entry)) ⌝ }
+    ensures { λ r. ⌜ r ≡ four (now (object .entry)) ⌝ }
 {
     let mut window = [0u8; 5688];
     let mut left = [0u8; 1592];
@@ -86,12 +76,12 @@ fn four_far(object: &[u8]) -> Four
 }
 
 fn four_near(object: &[u8]) -> Four
-    ensures { λ r. ⌜ r ≡ Object·four (now (object .entry)) ⌝ }
+    ensures { λ r. ⌜ r ≡ four (now (object .entry)) ⌝ }
 {
     let mut window = [0u8; 1780];
     let mut left = [0u8; 188];
     fold(Relation::FourNear, object, &mut window, &mut left);
-    horner::four(&left)
+    horner::first_four(&left)
 }
 
 // The page is taken in block by block, from the top down; the window then leaves symbols of the same components.

@@ -17,14 +17,14 @@ slice-aggregate-fold-2 c = search needs
 fold-requires : tie.Need-fold-requires
 fold-requires c κs = (fitting FourNear 796 1780 (omega arith) (omega arith) (omega arith), blank 188)
 
-slice-aggregate-four : tie.Need-slice-aggregate-four
-slice-aggregate-four c = search needs
+slice-aggregate-first-four : tie.Need-slice-aggregate-first-four
+slice-aggregate-first-four c = search needs
 
-four-requires : tie.Need-four-requires
-four-requires c κs = search needs
+first-four-requires : tie.Need-first-four-requires
+first-four-requires c κs = search needs
 
 returns : tie.Need-returns
-returns c = c .four .ensures ∙ four-kept FourNear _ _ (omega arith) (c .before .before .before .before .fold .ensures)
+returns c = c .first-four .ensures ∙ four-kept FourNear _ _ (omega arith) (c .before .before .before .before .fold .ensures)
 
 pub four-near-spec : {M : Type 1} → statement M
-four-near-spec = tie.close (tie.spec slice-aggregate-fold slice-aggregate-fold-2 fold-requires slice-aggregate-four four-requires returns)
+four-near-spec = tie.close (tie.spec slice-aggregate-fold slice-aggregate-fold-2 fold-requires slice-aggregate-first-four first-four-requires returns)

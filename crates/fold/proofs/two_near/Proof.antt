@@ -17,14 +17,14 @@ slice-aggregate-fold-2 c = search needs
 fold-requires : tie.Need-fold-requires
 fold-requires c κs = (fitting PairNear 512 1280 (omega arith) (omega arith) (omega arith), blank 256)
 
-slice-aggregate-two : tie.Need-slice-aggregate-two
-slice-aggregate-two c = search needs
+slice-aggregate-first-two : tie.Need-slice-aggregate-first-two
+slice-aggregate-first-two c = search needs
 
-two-requires : tie.Need-two-requires
-two-requires c κs = search needs
+first-two-requires : tie.Need-first-two-requires
+first-two-requires c κs = search needs
 
 returns : tie.Need-returns
-returns c = c .two .ensures ∙ two-kept PairNear _ _ (omega arith) (c .before .before .before .before .fold .ensures)
+returns c = c .first-two .ensures ∙ two-kept PairNear _ _ (omega arith) (c .before .before .before .before .fold .ensures)
 
 pub two-near-spec : {M : Type 1} → statement M
-two-near-spec = tie.close (tie.spec slice-aggregate-fold slice-aggregate-fold-2 fold-requires slice-aggregate-two two-requires returns)
+two-near-spec = tie.close (tie.spec slice-aggregate-fold slice-aggregate-fold-2 fold-requires slice-aggregate-first-two first-two-requires returns)

@@ -1,14 +1,14 @@
--- `fold::horner::four` meets its contract. The invariant: the sums stand for the symbols from `at` on, and whole blocks are left below.
+-- `horner::first_four` meets its contract. The invariant: the sums stand for the symbols from `at` on, and whole blocks are left below.
 -- Assumes nothing.
 use mathlib.Core.Path.{_≡_, ap₂, subst, _∙_}
 use Prim.Native.Nat.{ℕ, _+_, _-_, _*_, _/_, _%_, _≤_, _<_}
 use native.Mathlib.Omega.{arith}
 use lib.ListN.{length}
-use Rattle.fold.specs.declared.Four.{Four}
-use Rattle.fold.specs.Folding.{Stands}
-use Rattle.fold.proofs.Sums.{stands-last, stands-all}
-use Rattle.fold.proofs.horner.four.Statement.{statement}
-use Rattle.fold.proofs.horner.four.Tie as tie
+use Rattle.horner.specs.declared.Four.{Four}
+use Rattle.horner.specs.Sums.{Stands}
+use Rattle.horner.proofs.Sums.{stands-last, stands-all}
+use Rattle.horner.proofs.first_four.Statement.{statement}
+use Rattle.horner.proofs.first_four.Tie as tie
 
 made : {a b c d e f g h : ℕ} → a ≡ e → b ≡ f → c ≡ g → d ≡ h → _≡_ {A = Four} (record { s1 = a; s2 = b; s3 = c; s4 = d }) (record { s1 = e; s2 = f; s3 = g; s4 = h })
 made {a} {b} {c} {d} {e} {f} {g} {h} p q r s =
@@ -85,8 +85,8 @@ returns c =
     let object : _ = c .before .before .before .before .before .before .before .before .before .args .object .now in
     made (stands-all object 1 none (c .before .before .before .reduced .ensures) (at .inv .2)) (stands-all object 2 none (c .before .before .reduced2 .ensures) (at .inv .3)) (stands-all object 3 none (c .before .reduced3 .ensures) (at .inv .4)) (stands-all object 4 none (c .reduced4 .ensures) (at .inv .5))
 
-pub four-spec : {M : Type 1} → statement M
-four-spec =
+pub first-four-spec : {M : Type 1} → statement M
+first-four-spec =
     tie.close
     (tie.spec
     Inv-loop

@@ -1,13 +1,13 @@
--- `fold::horner::two` meets its contract. The invariant: the sums stand for the symbols from `at` on, and whole blocks are left below.
+-- `horner::first_two` meets its contract. The invariant: the sums stand for the symbols from `at` on, and whole blocks are left below.
 -- Assumes nothing.
 use mathlib.Core.Path.{_≡_, ap₂, subst}
 use Prim.Native.Nat.{ℕ, _+_, _-_, _*_, _/_, _%_, _≤_, _<_}
 use native.Mathlib.Omega.{arith}
 use lib.ListN.{length}
-use Rattle.fold.specs.Folding.{Stands}
-use Rattle.fold.proofs.Sums.{stands-last, stands-all}
-use Rattle.fold.proofs.horner.two.Statement.{statement}
-use Rattle.fold.proofs.horner.two.Tie as tie
+use Rattle.horner.specs.Sums.{Stands}
+use Rattle.horner.proofs.Sums.{stands-last, stands-all}
+use Rattle.horner.proofs.first_two.Statement.{statement}
+use Rattle.horner.proofs.first_two.Tie as tie
 
 abbrev Inv-loop : tie.InvT-loop
 Inv-loop object last s₀ at₀ s at =
@@ -70,8 +70,8 @@ returns c =
     let object : _ = c .before .before .before .before .before .before .before .args .object .now in
     ap₂ (λ (x y : ℕ). record { s1 = x; s2 = y }) (stands-all object 1 none (c .before .reduced .ensures) (at .inv .2)) (stands-all object 2 none (c .reduced2 .ensures) (at .inv .3))
 
-pub two-spec : {M : Type 1} → statement M
-two-spec =
+pub first-two-spec : {M : Type 1} → statement M
+first-two-spec =
     tie.close
     (tie.spec
     Inv-loop

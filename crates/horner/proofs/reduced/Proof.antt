@@ -1,11 +1,11 @@
--- `fold::horner::reduced` meets its contract: it is the quick reduction.
+-- `horner::reduced` meets its contract: it is the quick reduction.
 -- Assumes nothing.
 use native.Mathlib.Omega.{arith}
 use borrow.Author.Needs.{needs}
 use Rattle.field.specs.Field.{_⊕_}
-use Rattle.fold.proofs.Reducing.{first, second, third, fourth, quotient, taken-off, quick}
-use Rattle.fold.proofs.horner.reduced.Statement.{statement}
-use Rattle.fold.proofs.horner.reduced.Tie as tie
+use Rattle.horner.proofs.Reducing.{first, second, third, fourth, quotient, taken-off, quick}
+use Rattle.horner.proofs.reduced.Statement.{statement}
+use Rattle.horner.proofs.reduced.Tie as tie
 
 cast-result : tie.Need-cast-result
 cast-result c = search needs

@@ -5,10 +5,21 @@ ghost use lib.ListN.{length};
 ghost use Rattle.field.specs.Field.{GF16};
 ghost use Rattle.field.specs.Field.{reduced as Field·reduced};
 ghost use Rattle.components.specs.Objects.{symbol as Object·symbol};
-ghost use Rattle.fold.specs.Folding.{Stands};
-ghost use Rattle.fold.specs.Folding.{two as Object·two, four as Object·four};
-use crate::Four;
-use crate::Two;
+ghost use Rattle.horner.specs.Sums.{Stands, two, four};
+
+// Components 1 and 2.
+pub struct Two {
+    pub s1: u16,
+    pub s2: u16,
+}
+
+// Components 1 to 4.
+pub struct Four {
+    pub s1: u16,
+    pub s2: u16,
+    pub s3: u16,
+    pub s4: u16,
+}
 
 // Components that are not reduced yet.
 pub struct TwoSums {
@@ -23,8 +34,8 @@ pub struct FourSums {
     pub s4: u64,
 }
 
-pub fn two(object: &[u8]) -> Two
-    ensures { λ r. ⌜ r ≡ Object·two (now (object .entry)) ⌝ }
+pub fn first_two(object: &[u8]) -> Two
+    ensures { λ r. ⌜ r ≡ two (now (object .entry)) ⌝ }
 {
     let last = odd_byte(object);
     let mut s = TwoSums { s1: last, s2: last };
@@ -40,8 +51,8 @@ pub fn two(object: &[u8]) -> Two
     }
 }
 
-pub fn four(object: &[u8]) -> Four
-    ensures { λ r. ⌜ r ≡ Object·four (now (object .entry)) ⌝ }
+pub fn first_four(object: &[u8]) -> Four
+    ensures { λ r. ⌜ r ≡ four (now (object .entry)) ⌝ }
 {
     let last = odd_byte(object);
     let mut s = FourSums {

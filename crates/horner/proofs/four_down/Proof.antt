@@ -1,13 +1,13 @@
--- `fold::horner::four_down` meets its contract. The invariant: each sum stands for the symbols from i on, and has taken in no more than it has room for.
+-- `horner::four_down` meets its contract. The invariant: each sum stands for the symbols from i on, and has taken in no more than it has room for.
 -- Assumes nothing.
 use mathlib.Core.Path.{_≡_, subst}
 use Prim.Native.Nat.{ℕ, suc, _+_, _-_, _*_, _≤_, _<_}
 use native.Mathlib.Omega.{arith}
 use Rattle.field.specs.Field.{_⊕_}
-use Rattle.fold.specs.Folding.{Stands}
-use Rattle.fold.proofs.Sums.{Sum, sum-start, sum-next}
-use Rattle.fold.proofs.horner.four_down.Statement.{statement}
-use Rattle.fold.proofs.horner.four_down.Tie as tie
+use Rattle.horner.specs.Sums.{Stands}
+use Rattle.horner.proofs.Sums.{Sum, sum-start, sum-next}
+use Rattle.horner.proofs.four_down.Statement.{statement}
+use Rattle.horner.proofs.four_down.Tie as tie
 
 abbrev Inv-loop : tie.InvT-loop
 Inv-loop object top bottom s1₀ s2₀ s3₀ s4₀ i₀ s1 s2 s3 s4 i =

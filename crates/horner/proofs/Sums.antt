@@ -18,8 +18,8 @@ use Rattle.components.specs.Components.{signature}
 use Rattle.components.proofs.Components.{from, from-end, from-start, from-turn}
 use Rattle.components.proofs.Octets.{GF16-symbol}
 use Rattle.components.proofs.Windows.{symbol-past}
-use Rattle.fold.specs.Folding.{Stands}
-use Rattle.fold.proofs.Reducing.{step}
+use Rattle.horner.specs.Sums.{Stands}
+use Rattle.horner.proofs.Reducing.{step}
 
 -- component j from symbol i on, d symbols after it was reduced
 pub record Sum (object : List ℕ) (j i d s : ℕ) : Type 0 where

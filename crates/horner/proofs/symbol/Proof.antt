@@ -1,4 +1,4 @@
--- `fold::horner::symbol` meets its contract: the low byte first.
+-- `horner::symbol` meets its contract: the low byte first.
 -- Assumes nothing.
 use mathlib.Core.Path.{_≡_, ap, _∙_}
 use mathlib.Core.List.{List}
@@ -8,8 +8,8 @@ use native.Mathlib.Omega.{arith}
 use lib.ListN.{getD}
 use borrow.Author.Needs.{needs}
 use Rattle.components.specs.Objects.{lowFirst, symbol}
-use Rattle.fold.proofs.horner.symbol.Statement.{statement}
-use Rattle.fold.proofs.horner.symbol.Tie as tie
+use Rattle.horner.proofs.symbol.Statement.{statement}
+use Rattle.horner.proofs.symbol.Tie as tie
 
 made : (object : List ℕ) (i : ℕ) → getD object (i * 2) 0 + getD object (i * 2 + 1) 0 * 256 ≡ symbol 2 object i
 unfolding symbol lowFirst

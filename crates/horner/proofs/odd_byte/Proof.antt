@@ -1,4 +1,4 @@
--- `fold::horner::odd_byte` meets its contract: a last byte without its fellow is a symbol, and past the end there are zeros.
+-- `horner::odd_byte` meets its contract: a last byte without its fellow is a symbol, and past the end there are zeros.
 -- Assumes nothing.
 use mathlib.Core.Path.{_≡_, sym, ap, ap₂, _∙_}
 use mathlib.Core.List.{List}
@@ -8,8 +8,8 @@ use lib.ListN.{length, getD, List·getD-eq-default}
 use borrow.Author.Needs.{needs}
 use Rattle.components.specs.Objects.{lowFirst, symbol}
 use Rattle.components.proofs.Windows.{symbol-past}
-use Rattle.fold.proofs.horner.odd_byte.Statement.{statement}
-use Rattle.fold.proofs.horner.odd_byte.Tie as tie
+use Rattle.horner.proofs.odd_byte.Statement.{statement}
+use Rattle.horner.proofs.odd_byte.Tie as tie
 
 last : (object : List ℕ) → length object % 2 ≡ 1 → getD object (length object - 1) 0 ≡ symbol 2 object (length object / 2)
 unfolding symbol lowFirst

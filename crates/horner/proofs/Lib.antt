@@ -1,0 +1,3 @@
+-- The laws of sums that are not reduced yet.
+pub mod Reducing
+pub mod Sums

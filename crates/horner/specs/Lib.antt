@@ -1,0 +1,2 @@
+-- What the contracts of `horner` cite.
+pub mod Sums
