@@ -32,7 +32,19 @@ pub fn first_two(object: &[u8]) -> Two
     if object.len() <= 1024 {
         return two_near(object);
     }
-    two_far(object)
+    if object.len() <= 8192 {
+        return two_far(object);
+    }
+    two_long(object)
+}
+
+fn two_long(object: &[u8]) -> Two
+    ensures { λ r. ⌜ r ≡ two (now (object .entry)) ⌝ }
+{
+    let mut window = [0u8; 13226];
+    let mut left = [0u8; 938];
+    fold(Relation::PairFar, object, &mut window, &mut left);
+    two_near(&left)
 }
 
 fn two_far(object: &[u8]) -> Two
@@ -63,7 +75,19 @@ pub fn first_four(object: &[u8]) -> Four
     if object.len() <= 1592 {
         return four_near(object);
     }
-    four_far(object)
+    if object.len() <= 8192 {
+        return four_far(object);
+    }
+    four_long(object)
+}
+
+fn four_long(object: &[u8]) -> Four
+    ensures { λ r. ⌜ r ≡ four (now (object .entry)) ⌝ }
+{
+    let mut window = [0u8; 13880];
+    let mut left = [0u8; 1592];
+    fold(Relation::FourFar, object, &mut window, &mut left);
+    four_near(&left)
 }
 
 fn four_far(object: &[u8]) -> Four

@@ -43,7 +43,7 @@ pub fn first_two(object: &[u8]) -> Two
     s = two_down(object, object.len() / 2, at, s);
     while at > 0 {
         at -= 24;
-        s = two_down(object, at + 24, at, s);
+        s = two_block(object, at, s);
     }
     Two {
         s1: reduced(s.s1),
@@ -65,7 +65,7 @@ pub fn first_four(object: &[u8]) -> Four
     s = four_down(object, object.len() / 2, at, s);
     while at > 0 {
         at -= 12;
-        s = four_down(object, at + 12, at, s);
+        s = four_block(object, at, s);
     }
     Four {
         s1: reduced(s.s1),
@@ -102,6 +102,23 @@ fn two_down(object: &[u8], top: usize, bottom: usize, s: TwoSums) -> TwoSums
     TwoSums { s1, s2 }
 }
 
+// The same over 24 symbols from `at` on, a count that the compiler knows.
+fn two_block(object: &[u8], at: usize, s: TwoSums) -> TwoSums
+    requires { ⌜ ((at + 24) * 2 ≤ length (now object)) × Stands (now object) 1 (at + 24) (s .s1) × Stands (now object) 2 (at + 24) (s .s2) ⌝ }
+    ensures { λ r. ⌜ Stands (now (object .entry)) 1 at (r .s1) × Stands (now (object .entry)) 2 at (r .s2) ⌝ }
+{
+    let mut s1 = reduced(s.s1) as u64;
+    let mut s2 = reduced(s.s2) as u64;
+    let mut i = at + 24;
+    while i > at {
+        i -= 1;
+        let x = symbol(object, i);
+        s1 = (s1 << 1) ^ x;
+        s2 = (s2 << 2) ^ x;
+    }
+    TwoSums { s1, s2 }
+}
+
 fn four_down(object: &[u8], top: usize, bottom: usize, s: FourSums) -> FourSums
     requires { ⌜ (bottom ≤ top) × (top ≤ bottom + 12) × (top * 2 ≤ length (now object)) × Stands (now object) 1 top (s .s1) × Stands (now object) 2 top (s .s2) × Stands (now object) 3 top (s .s3) × Stands (now object) 4 top (s .s4) ⌝ }
     ensures { λ r. ⌜ Stands (now (object .entry)) 1 bottom (r .s1) × Stands (now (object .entry)) 2 bottom (r .s2) × Stands (now (object .entry)) 3 bottom (r .s3) × Stands (now (object .entry)) 4 bottom (r .s4) ⌝ }
@@ -112,6 +129,26 @@ fn four_down(object: &[u8], top: usize, bottom: usize, s: FourSums) -> FourSums
     let mut s4 = reduced(s.s4) as u64;
     let mut i = top;
     while i > bottom {
+        i -= 1;
+        let x = symbol(object, i);
+        s1 = (s1 << 1) ^ x;
+        s2 = (s2 << 2) ^ x;
+        s3 = (s3 << 3) ^ x;
+        s4 = (s4 << 4) ^ x;
+    }
+    FourSums { s1, s2, s3, s4 }
+}
+
+fn four_block(object: &[u8], at: usize, s: FourSums) -> FourSums
+    requires { ⌜ ((at + 12) * 2 ≤ length (now object)) × Stands (now object) 1 (at + 12) (s .s1) × Stands (now object) 2 (at + 12) (s .s2) × Stands (now object) 3 (at + 12) (s .s3) × Stands (now object) 4 (at + 12) (s .s4) ⌝ }
+    ensures { λ r. ⌜ Stands (now (object .entry)) 1 at (r .s1) × Stands (now (object .entry)) 2 at (r .s2) × Stands (now (object .entry)) 3 at (r .s3) × Stands (now (object .entry)) 4 at (r .s4) ⌝ }
+{
+    let mut s1 = reduced(s.s1) as u64;
+    let mut s2 = reduced(s.s2) as u64;
+    let mut s3 = reduced(s.s3) as u64;
+    let mut s4 = reduced(s.s4) as u64;
+    let mut i = at + 12;
+    while i > at {
         i -= 1;
         let x = symbol(object, i);
         s1 = (s1 << 1) ^ x;

@@ -44,15 +44,10 @@ loop-holds c = (omega arith, omega arith, c .four-down .ensures .0, c .four-down
 sub-at : tie.Need-sub-at Inv-loop μ-loop
 sub-at c = omega arith
 
-add-four-down : tie.Need-add-four-down Inv-loop μ-loop
-add-four-down c = omega arith
-
-four-down-requires-2 : tie.Need-four-down-requires-2 Inv-loop μ-loop
-four-down-requires-2 c κs =
+four-block-requires : tie.Need-four-block-requires Inv-loop μ-loop
+four-block-requires c κs =
     let at : _ = c .before .loop in
     let top : at .at ≡ at .at - 12 + 12 = omega arith in (
-      omega arith,
-      omega arith,
       omega arith,
       subst (λ (n : ℕ). Stands (c .before .before .before .before .before .args .object .now) 1 n (at .s .s1)) top (at .inv .2),
       subst (λ (n : ℕ). Stands (c .before .before .before .before .before .args .object .now) 2 n (at .s .s2)) top (at .inv .3),
@@ -64,7 +59,7 @@ loop-less : tie.Need-loop-less Inv-loop μ-loop
 loop-less c = omega arith
 
 loop-again : tie.Need-loop-again Inv-loop μ-loop
-loop-again c = (omega arith, omega arith, c .four-down2 .ensures .0, c .four-down2 .ensures .1, c .four-down2 .ensures .2, c .four-down2 .ensures .3)
+loop-again c = (omega arith, omega arith, c .four-block .ensures .0, c .four-block .ensures .1, c .four-block .ensures .2, c .four-block .ensures .3)
 
 reduced-requires : tie.Need-reduced-requires Inv-loop μ-loop
 reduced-requires c κs = tt
@@ -96,8 +91,7 @@ first-four-spec =
     four-down-requires
     loop-holds
     sub-at
-    add-four-down
-    four-down-requires-2
+    four-block-requires
     loop-less
     loop-again
     reduced-requires

@@ -37,15 +37,10 @@ loop-holds c = (omega arith, omega arith, c .two-down .ensures .0, c .two-down .
 sub-at : tie.Need-sub-at Inv-loop μ-loop
 sub-at c = omega arith
 
-add-two-down : tie.Need-add-two-down Inv-loop μ-loop
-add-two-down c = omega arith
-
-two-down-requires-2 : tie.Need-two-down-requires-2 Inv-loop μ-loop
-two-down-requires-2 c κs =
+two-block-requires : tie.Need-two-block-requires Inv-loop μ-loop
+two-block-requires c κs =
     let at : _ = c .before .loop in
     let top : at .at ≡ at .at - 24 + 24 = omega arith in (
-      omega arith,
-      omega arith,
       omega arith,
       subst (λ (n : ℕ). Stands (c .before .before .before .before .before .args .object .now) 1 n (at .s .s1)) top (at .inv .2),
       subst (λ (n : ℕ). Stands (c .before .before .before .before .before .args .object .now) 2 n (at .s .s2)) top (at .inv .3),
@@ -55,7 +50,7 @@ loop-less : tie.Need-loop-less Inv-loop μ-loop
 loop-less c = omega arith
 
 loop-again : tie.Need-loop-again Inv-loop μ-loop
-loop-again c = (omega arith, omega arith, c .two-down2 .ensures .0, c .two-down2 .ensures .1)
+loop-again c = (omega arith, omega arith, c .two-block .ensures .0, c .two-block .ensures .1)
 
 reduced-requires : tie.Need-reduced-requires Inv-loop μ-loop
 reduced-requires c κs = tt
@@ -81,8 +76,7 @@ first-two-spec =
     two-down-requires
     loop-holds
     sub-at
-    add-two-down
-    two-down-requires-2
+    two-block-requires
     loop-less
     loop-again
     reduced-requires
