@@ -28,9 +28,9 @@ inBytes (o ∷ os) = o * 2 ∷ inBytes os
 abbrev pub pairFar : Relation
 pairFar = record { distance = 469; offsets = 376 ∷ 469 ∷ [] }
 
--- x^128 = x^96 + x^24 + x^8 + 1
+-- x^89 = x^22 + x^21 + x^13 + 1
 abbrev pub pairNear : Relation
-pairNear = record { distance = 128; offsets = 32 ∷ 104 ∷ 120 ∷ 128 ∷ [] }
+pairNear = record { distance = 89; offsets = 67 ∷ 68 ∷ 76 ∷ 89 ∷ [] }
 
 -- x^796 = x^241 + x^83 + x^80 + 1
 abbrev pub fourFar : Relation

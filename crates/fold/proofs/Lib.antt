@@ -3,3 +3,4 @@ pub mod Turns
 pub mod Settings
 pub mod Landings
 pub mod Standing
+pub mod Answers

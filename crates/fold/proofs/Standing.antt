@@ -107,9 +107,31 @@ zeros n k =
 pub blank : (n : ℕ) → Blank n (replicate n 0)
 blank n = record { all = length-replicate n 0; zeros = zeros n }
 
-pub fitting : (r : Relation) (block n : ℕ) → n ≡ (block + known r .distance) * 2 → 0 < block → known r .distance ≤ block → Fits r (replicate n 0)
-fitting r block n whole some roomy =
-    record { block = block; whole = length-replicate n 0 ∙ whole; some = some; roomy = roomy; zeros = zeros n }
+-- every relation leaves at most half of what a long window holds
+far-enough : (r : Relation) → known r .distance ≤ 796
+far-enough PairFar = omega arith
+far-enough PairNear = omega arith
+far-enough FourFar = omega arith
+far-enough FourNear = omega arith
+
+pub fitting : (r : Relation) (n half : ℕ) → n ≡ half * 2 → known r .distance + known r .distance ≤ half → Fits r (replicate n 0)
+fitting r n half even roomy =
+    record {
+      block = half - known r .distance;
+      whole = length-replicate n 0 ∙ omega (arith, even, roomy);
+      some = omega (arith, roomy, some r);
+      roomy = omega (arith, roomy);
+      zeros = zeros n;
+    }
+  where
+    some : (r : Relation) → 0 < known r .distance
+    some PairFar = omega arith
+    some PairNear = omega arith
+    some FourFar = omega arith
+    some FourNear = omega arith
+
+pub fitting-far : (r : Relation) (n half : ℕ) → n ≡ half * 2 → 1592 ≤ half → Fits r (replicate n 0)
+fitting-far r n half even long = fitting r n half even (omega (arith, long, far-enough r))
 
 pub two-kept : (r : Relation) (page left : List ℕ) → 2 ≤ upTo r → Kept r page left → two left ≡ two page
 two-kept r page left enough k =

@@ -29,13 +29,13 @@ fn land_pair_far(window: &[u8], left: &mut [u8])
 }
 
 fn land_pair_near(window: &[u8], left: &mut [u8])
-    requires { ⌜ (256 ≤ length (now window)) × Blank 256 (now left) ⌝ }
-    ensures { λ _. ⌜ Landed (inBytes (pairNear .offsets)) 256 (now (window .entry)) (now (left .exit)) ⌝ }
+    requires { ⌜ (178 ≤ length (now window)) × Blank 178 (now left) ⌝ }
+    ensures { λ _. ⌜ Landed (inBytes (pairNear .offsets)) 178 (now (window .entry)) (now (left .exit)) ⌝ }
 {
-    add(window, 0, 256, left);
-    add(window, 64, 256, left);
-    add(window, 208, 256, left);
-    add(window, 240, 256, left);
+    add(window, 0, 178, left);
+    add(window, 134, 178, left);
+    add(window, 136, 178, left);
+    add(window, 152, 178, left);
 }
 
 fn land_four_far(window: &[u8], left: &mut [u8])

@@ -26,42 +26,28 @@ pub enum Relation {
 pub fn first_two(object: &[u8]) -> Two
     ensures { λ r. ⌜ r ≡ two (now (object .entry)) ⌝ }
 {
-    if object.len() <= 256 {
+    if object.len() <= 178 {
         return horner::first_two(object);
     }
     if object.len() <= 1024 {
         return two_near(object);
     }
-    if object.len() <= 8192 {
-        return two_far(object);
-    }
-    two_long(object)
-}
-
-fn two_long(object: &[u8]) -> Two
-    ensures { λ r. ⌜ r ≡ two (now (object .entry)) ⌝ }
-{
-    let mut window = [0u8; 13226];
-    let mut left = [0u8; 938];
-    fold(Relation::PairFar, object, &mut window, &mut left);
-    two_near(&left)
+    two_far(object)
 }
 
 fn two_far(object: &[u8]) -> Two
     ensures { λ r. ⌜ r ≡ two (now (object .entry)) ⌝ }
 {
-    let mut window = [0u8; 5034];
     let mut left = [0u8; 938];
-    fold(Relation::PairFar, object, &mut window, &mut left);
+    fold_far(Relation::PairFar, object, &mut left);
     two_near(&left)
 }
 
 fn two_near(object: &[u8]) -> Two
     ensures { λ r. ⌜ r ≡ two (now (object .entry)) ⌝ }
 {
-    let mut window = [0u8; 1280];
-    let mut left = [0u8; 256];
-    fold(Relation::PairNear, object, &mut window, &mut left);
+    let mut left = [0u8; 178];
+    fold_near(Relation::PairNear, object, &mut left);
     horner::first_two(&left)
 }
 
@@ -75,37 +61,51 @@ pub fn first_four(object: &[u8]) -> Four
     if object.len() <= 1592 {
         return four_near(object);
     }
-    if object.len() <= 8192 {
-        return four_far(object);
-    }
-    four_long(object)
-}
-
-fn four_long(object: &[u8]) -> Four
-    ensures { λ r. ⌜ r ≡ four (now (object .entry)) ⌝ }
-{
-    let mut window = [0u8; 13880];
-    let mut left = [0u8; 1592];
-    fold(Relation::FourFar, object, &mut window, &mut left);
-    four_near(&left)
+    four_far(object)
 }
 
 fn four_far(object: &[u8]) -> Four
     ensures { λ r. ⌜ r ≡ four (now (object .entry)) ⌝ }
 {
-    let mut window = [0u8; 5688];
     let mut left = [0u8; 1592];
-    fold(Relation::FourFar, object, &mut window, &mut left);
+    fold_far(Relation::FourFar, object, &mut left);
     four_near(&left)
 }
 
 fn four_near(object: &[u8]) -> Four
     ensures { λ r. ⌜ r ≡ four (now (object .entry)) ⌝ }
 {
-    let mut window = [0u8; 1780];
     let mut left = [0u8; 188];
-    fold(Relation::FourNear, object, &mut window, &mut left);
+    fold_near(Relation::FourNear, object, &mut left);
     horner::first_four(&left)
+}
+
+// Windows by the length of what is folded: a longer one moves what stands in it less often, and costs more to clear.
+fn fold_far(r: Relation, object: &[u8], left: &mut [u8])
+    requires { ⌜ Blank (reach r) (now left) ⌝ }
+    ensures { λ _. ⌜ Kept r (now (object .entry)) (now (left .exit)) ⌝ }
+{
+    if object.len() <= 8192 {
+        return fold_far_short(r, object, left);
+    }
+    let mut window = [0u8; 13880];
+    fold(r, object, &mut window, left);
+}
+
+fn fold_far_short(r: Relation, object: &[u8], left: &mut [u8])
+    requires { ⌜ Blank (reach r) (now left) ⌝ }
+    ensures { λ _. ⌜ Kept r (now (object .entry)) (now (left .exit)) ⌝ }
+{
+    let mut window = [0u8; 5688];
+    fold(r, object, &mut window, left);
+}
+
+fn fold_near(r: Relation, object: &[u8], left: &mut [u8])
+    requires { ⌜ (reach r ≤ 890) × Blank (reach r) (now left) ⌝ }
+    ensures { λ _. ⌜ Kept r (now (object .entry)) (now (left .exit)) ⌝ }
+{
+    let mut window = [0u8; 1780];
+    fold(r, object, &mut window, left);
 }
 
 // The page is taken in block by block, from the top down; the window then leaves symbols of the same components.
@@ -132,7 +132,7 @@ fn reach_of(r: Relation) -> usize
 {
     match r {
         Relation::PairFar => 938,
-        Relation::PairNear => 256,
+        Relation::PairNear => 178,
         Relation::FourFar => 1592,
         Relation::FourNear => 188,
     }

@@ -38,16 +38,16 @@ fn down_pair_far(block: &[u8], window: &mut [u8])
     }
 }
 
-// x^128 = x^96 + x^24 + x^8 + 1
+// x^89 = x^22 + x^21 + x^13 + 1
 fn pair_near(x: u8, window: &[u8], i: usize) -> u8
-    requires { ⌜ i + 256 < length (now window) ⌝ }
+    requires { ⌜ i + 178 < length (now window) ⌝ }
     ensures { λ r. ⌜ r ≡ gathered x (inBytes (pairNear .offsets)) (λ k. getD (now (window .entry)) k 0) i ⌝ }
 {
-    x ^ window[i + 64] ^ window[i + 208] ^ window[i + 240] ^ window[i + 256]
+    x ^ window[i + 134] ^ window[i + 136] ^ window[i + 152] ^ window[i + 178]
 }
 
 fn down_pair_near(block: &[u8], window: &mut [u8])
-    requires { ⌜ length (now block) + 256 ≤ length (now window) ⌝ }
+    requires { ⌜ length (now block) + 178 ≤ length (now window) ⌝ }
     ensures { λ _. ⌜ Down (inBytes (pairNear .offsets)) (now (block .entry)) (now (window .entry)) (now (window .exit)) ⌝ }
 {
     let mut i = block.len();

@@ -4,7 +4,7 @@ use mathlib.Core.Path.{_≡_, refl, sym, ap, ap₂, _∙_, subst}
 use mathlib.Core.Logic.{dite, ⊎-elim}
 use mathlib.Core.List.{List}
 use Prim.Native.Nat.{ℕ, zero, suc, _+_, _-_, _*_, _/_, _%_, _^_, _≤_, _<_}
-use native.Mathlib.Nat.{mod-eq-of-lt, mul-lt-mul-of-pos-right, lt-of-lt-of-le, mul-suc, add-assoc, eq-or-lt-of-le, sub-self, mul-zero, add-zero}
+use native.Mathlib.Nat.{mod-eq-of-lt, mul-lt-mul-of-pos-right, lt-of-lt-of-le, mul-suc, add-assoc, eq-or-lt-of-le, mul-zero, mul-le-mul-left}
 use native.Mathlib.Decide.{decLt}
 use native.Mathlib.Omega.{arith}
 use lib.ListN.{length, getD, List·getD-eq-default}
@@ -18,20 +18,30 @@ use Rattle.components.specs.Components.{signature}
 use Rattle.components.proofs.Components.{from, from-end, from-start, from-turn}
 use Rattle.components.proofs.Octets.{GF16-symbol}
 use Rattle.components.proofs.Windows.{symbol-past}
-use Rattle.horner.specs.Sums.{Stands}
+use Rattle.horner.specs.Sums.{Sum}
 use Rattle.horner.proofs.Reducing.{step}
 
--- component j from symbol i on, d symbols after it was reduced
-pub record Sum (object : List ℕ) (j i d s : ℕ) : Type 0 where
-  pub stands : Stands object j i s
-  pub below : s < 2 ^ (16 + j * d)
-
-pub sum-start : (object : List ℕ) (j i s r : ℕ) → Stands object j i s → r ≡ reduced GF16 48 s → r < 65536 → Sum object j i (i - i) r
-sum-start object j i s r stood e small =
+-- a sum that is reduced
+pub sum-start : (object : List ℕ) (j i d s r : ℕ) → Sum object j i d s → r ≡ reduced GF16 48 s → r < 65536 → Sum object j i 0 r
+sum-start object j i d s r sum e small =
     record {
-      stands = record { stands = reduced-below GF16 48 small ∙ e ∙ stood .stands };
-      below = subst (λ (n : ℕ). r < 2 ^ n) (sym (ap (λ (n : ℕ). 16 + j * n) (sub-self i) ∙ ap (λ (n : ℕ). 16 + n) (mul-zero j))) small;
+      stands = reduced-below GF16 48 small ∙ e ∙ sum .stands;
+      below = subst (λ (n : ℕ). r < 2 ^ n) (sym (ap (λ (n : ℕ). 16 + n) (mul-zero j))) small;
     }
+
+-- at the top nothing is taken in yet
+pub sum-here : (object : List ℕ) (j i d s : ℕ) → Sum object j i d s → Sum object j i (d + (i - i)) s
+sum-here object j i d s sum = subst (λ (n : ℕ). Sum object j i n s) here sum
+  where
+    here : d ≡ d + (i - i)
+    here = omega arith
+
+-- one that has room for more than it took
+pub sum-more : (object : List ℕ) (j i d e s : ℕ) → d ≤ e → Sum object j i d s → Sum object j i e s
+sum-more object j i d e s h sum = record { stands = sum .stands; below = lt-of-lt-of-le (sum .below) (pow-mono more) }
+  where
+    more : 16 + j * d ≤ 16 + j * e
+    more = omega (arith, mul-le-mul-left j h)
 
 module _ (object : List ℕ) (octets : Octets object) where
   pub sum-turn : (j i d s x : ℕ) → 1 ≤ j → j ≤ 4 → j * suc d ≤ 48 → i < symbols 2 object → x ≡ symbol 2 object i → Sum object j (suc i) d s
@@ -39,12 +49,10 @@ module _ (object : List ℕ) (octets : Octets object) where
   unfolding from
   sum-turn j i d s x one four few inside here sum =
       record {
-        stands = record {
-          stands =
-              step j one four s x short small
-              ∙ ap₂ (λ (y z : ℕ). y ⊕ product GF16 z (power GF16 α j)) here (sum .stands .stands)
-              ∙ from-turn GF16 GF16-formed (symbols 2 object) (symbol 2 object) j i inside (GF16-symbol object octets);
-        };
+        stands =
+            step j one four s x short small
+            ∙ ap₂ (λ (y z : ℕ). y ⊕ product GF16 z (power GF16 α j)) here (sum .stands)
+            ∙ from-turn GF16 GF16-formed (symbols 2 object) (symbol 2 object) j i inside (GF16-symbol object octets);
         below = sum-lt (16 + j * suc d) (subst (λ (n : ℕ). n < 2 ^ (16 + j * suc d)) (sym (mod-eq-of-lt room)) grown) (lt-of-lt-of-le small (pow-mono more));
       }
     where
@@ -71,28 +79,34 @@ module _ (object : List ℕ) (octets : Octets object) where
       room : s * 2 ^ j < 2 ^ 64
       room = lt-of-lt-of-le grown (pow-mono top)
 
-  -- the same, counted down from the top
-  pub sum-next : (j top i s x : ℕ) → 1 ≤ j → j ≤ 4 → 0 < i → i ≤ top → j * suc (top - i) ≤ 48 → i ≤ symbols 2 object → x ≡ symbol 2 object (i - 1)
-      → Sum object j i (top - i) s → Sum object j (i - 1) (top - (i - 1)) (s * 2 ^ j % 2 ^ 64 ⊕ x)
-  sum-next j top i s x one four some h few inside here sum =
-      subst (λ (d : ℕ). Sum object j (i - 1) d (s * 2 ^ j % 2 ^ 64 ⊕ x)) further
-      (sum-turn j (i - 1) (top - i) s x one four few within here (subst (λ (n : ℕ). Sum object j n (top - i) s) this sum))
+  -- the same, counted down from the top, where d symbols had been taken in
+  pub sum-next : (j d top i s x : ℕ) → 1 ≤ j → j ≤ 4 → 0 < i → i ≤ top → j * suc (d + (top - i)) ≤ 48 → i ≤ symbols 2 object → x ≡ symbol 2 object (i - 1)
+      → Sum object j i (d + (top - i)) s → Sum object j (i - 1) (d + (top - (i - 1))) (s * 2 ^ j % 2 ^ 64 ⊕ x)
+  sum-next j d top i s x one four some h few inside here sum =
+      subst (λ (e : ℕ). Sum object j (i - 1) e (s * 2 ^ j % 2 ^ 64 ⊕ x)) further
+      (sum-turn j (i - 1) (d + (top - i)) s x one four few within here (subst (λ (n : ℕ). Sum object j n (d + (top - i)) s) this sum))
     where
       this : i ≡ suc (i - 1)
       this = omega (arith, some)
 
-      further : suc (top - i) ≡ top - (i - 1)
+      further : suc (d + (top - i)) ≡ d + (top - (i - 1))
       further = omega (arith, some, h)
 
       within : i - 1 < symbols 2 object
       within = omega (arith, some, inside)
 
   -- before the first turn: an odd last byte is a symbol
-  pub stands-last : (j s : ℕ) → s ≡ symbol 2 object (length object / 2) → Stands object j (length object / 2) s
+  pub sum-last : (j s : ℕ) → s ≡ symbol 2 object (length object / 2) → Sum object j (length object / 2) 0 s
   unfolding from
-  stands-last j s here =
-      record { stands = reduced-below GF16 48 (subst (λ (n : ℕ). n < 2 ^ 16) (sym here) (GF16-symbol object octets (length object / 2))) ∙ here ∙ last }
+  sum-last j s here =
+      record {
+        stands = reduced-below GF16 48 small ∙ here ∙ last;
+        below = subst (λ (n : ℕ). s < 2 ^ n) (sym (ap (λ (n : ℕ). 16 + n) (mul-zero j))) small;
+      }
     where
+      small : s < 2 ^ 16
+      small = subst (λ (n : ℕ). n < 2 ^ 16) (sym here) (GF16-symbol object octets (length object / 2))
+
       last : symbol 2 object (length object / 2) ≡ from GF16 (symbols 2 object) (symbol 2 object) j (length object / 2)
       last =
           dite (decLt (length object / 2) (symbols 2 object))
@@ -113,10 +127,10 @@ module _ (object : List ℕ) (octets : Octets object) where
           even h = omega (arith, h)
 
 -- after the last turn
-pub stands-all : (object : List ℕ) (j : ℕ) {i s r : ℕ} → i ≡ 0 → r ≡ reduced GF16 48 s → Stands object j i s → r ≡ signature GF16 2 object j
+pub sum-all : (object : List ℕ) (j : ℕ) {i d s r : ℕ} → i ≡ 0 → r ≡ reduced GF16 48 s → Sum object j i d s → r ≡ signature GF16 2 object j
 unfolding from
-stands-all object j {i} {s} none e stood =
+sum-all object j {i} {d} {s} none e sum =
     e
-    ∙ stood .stands
+    ∙ sum .stands
     ∙ ap (from GF16 (symbols 2 object) (symbol 2 object) j) none
     ∙ from-start GF16 (symbols 2 object) (symbol 2 object) j

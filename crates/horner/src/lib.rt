@@ -1,11 +1,12 @@
 // The last symbols, by Horner's rule from the last one down: sums of 64 digits that are reduced only where they would not fit any more.
 ghost use mathlib.Core.Path.{_≡_};
-ghost use Prim.Native.Nat.{_+_, _*_, _/_, _≤_, _<_};
+ghost use mathlib.Core.List.{List};
+ghost use Prim.Native.Nat.{ℕ, _+_, _*_, _/_, _≤_, _<_};
 ghost use lib.ListN.{length};
 ghost use Rattle.field.specs.Field.{GF16};
 ghost use Rattle.field.specs.Field.{reduced as Field·reduced};
 ghost use Rattle.components.specs.Objects.{symbol as Object·symbol};
-ghost use Rattle.horner.specs.Sums.{Stands, two, four};
+ghost use Rattle.horner.specs.Sums.{two, four, TwoFrom, TwoTo, FourFrom, FourTo};
 
 // Components 1 and 2.
 pub struct Two {
@@ -38,9 +39,8 @@ pub fn first_two(object: &[u8]) -> Two
     ensures { λ r. ⌜ r ≡ two (now (object .entry)) ⌝ }
 {
     let last = odd_byte(object);
-    let mut s = TwoSums { s1: last, s2: last };
     let mut at = object.len() / 2 / 24 * 24;
-    s = two_down(object, object.len() / 2, at, s);
+    let mut s = two_down(object, object.len() / 2, at, TwoSums { s1: last, s2: last });
     while at > 0 {
         at -= 24;
         s = two_block(object, at, s);
@@ -54,17 +54,10 @@ pub fn first_two(object: &[u8]) -> Two
 pub fn first_four(object: &[u8]) -> Four
     ensures { λ r. ⌜ r ≡ four (now (object .entry)) ⌝ }
 {
-    let last = odd_byte(object);
-    let mut s = FourSums {
-        s1: last,
-        s2: last,
-        s3: last,
-        s4: last,
-    };
-    let mut at = object.len() / 2 / 12 * 12;
-    s = four_down(object, object.len() / 2, at, s);
+    let mut at = object.len() / 2 / 24 * 24;
+    let mut s = four_top(object, at);
     while at > 0 {
-        at -= 12;
+        at -= 24;
         s = four_block(object, at, s);
     }
     Four {
@@ -87,11 +80,11 @@ fn odd_byte(object: &[u8]) -> u64
 
 // From the sums at symbol `top` to those at symbol `bottom`.
 fn two_down(object: &[u8], top: usize, bottom: usize, s: TwoSums) -> TwoSums
-    requires { ⌜ (bottom ≤ top) × (top ≤ bottom + 24) × (top * 2 ≤ length (now object)) × Stands (now object) 1 top (s .s1) × Stands (now object) 2 top (s .s2) ⌝ }
-    ensures { λ r. ⌜ Stands (now (object .entry)) 1 bottom (r .s1) × Stands (now (object .entry)) 2 bottom (r .s2) ⌝ }
+    requires { ⌜ (bottom ≤ top) × (top ≤ bottom + 24) × (top * 2 ≤ length (now object)) ⌝ }
+    ensures { λ r. ⌜ (TwoFrom (now (object .entry)) top s → TwoTo (now (object .entry)) bottom r) ⌝ }
 {
-    let mut s1 = reduced(s.s1) as u64;
-    let mut s2 = reduced(s.s2) as u64;
+    let mut s1 = s.s1;
+    let mut s2 = s.s2;
     let mut i = top;
     while i > bottom {
         i -= 1;
@@ -104,8 +97,8 @@ fn two_down(object: &[u8], top: usize, bottom: usize, s: TwoSums) -> TwoSums
 
 // The same over 24 symbols from `at` on, a count that the compiler knows.
 fn two_block(object: &[u8], at: usize, s: TwoSums) -> TwoSums
-    requires { ⌜ ((at + 24) * 2 ≤ length (now object)) × Stands (now object) 1 (at + 24) (s .s1) × Stands (now object) 2 (at + 24) (s .s2) ⌝ }
-    ensures { λ r. ⌜ Stands (now (object .entry)) 1 at (r .s1) × Stands (now (object .entry)) 2 at (r .s2) ⌝ }
+    requires { ⌜ (at + 24) * 2 ≤ length (now object) ⌝ }
+    ensures { λ r. ⌜ (TwoTo (now (object .entry)) (at + 24) s → TwoTo (now (object .entry)) at r) ⌝ }
 {
     let mut s1 = reduced(s.s1) as u64;
     let mut s2 = reduced(s.s2) as u64;
@@ -119,14 +112,39 @@ fn two_block(object: &[u8], at: usize, s: TwoSums) -> TwoSums
     TwoSums { s1, s2 }
 }
 
-fn four_down(object: &[u8], top: usize, bottom: usize, s: FourSums) -> FourSums
-    requires { ⌜ (bottom ≤ top) × (top ≤ bottom + 12) × (top * 2 ≤ length (now object)) × Stands (now object) 1 top (s .s1) × Stands (now object) 2 top (s .s2) × Stands (now object) 3 top (s .s3) × Stands (now object) 4 top (s .s4) ⌝ }
-    ensures { λ r. ⌜ Stands (now (object .entry)) 1 bottom (r .s1) × Stands (now (object .entry)) 2 bottom (r .s2) × Stands (now (object .entry)) 3 bottom (r .s3) × Stands (now (object .entry)) 4 bottom (r .s4) ⌝ }
+// The symbols above the whole blocks, fewer than 24, and an odd last byte.
+fn four_top(object: &[u8], at: usize) -> FourSums
+    requires { ⌜ at ≡ length (now object) / 2 / 24 * 24 ⌝ }
+    ensures { λ r. ⌜ FourTo (now (object .entry)) at 24 r ⌝ }
 {
-    let mut s1 = reduced(s.s1) as u64;
-    let mut s2 = reduced(s.s2) as u64;
-    let mut s3 = reduced(s.s3) as u64;
-    let mut s4 = reduced(s.s4) as u64;
+    let last = odd_byte(object);
+    let top = object.len() / 2;
+    let start = FourSums {
+        s1: last,
+        s2: last,
+        s3: last,
+        s4: last,
+    };
+    if top <= at + 12 {
+        return four_down(object, top, at, start);
+    }
+    four_down(
+        object,
+        at + 12,
+        at,
+        halved(four_down(object, top, at + 12, start)),
+    )
+}
+
+// From the sums at symbol `top` to those at symbol `bottom`, at most 12 symbols: components 1 and 2 may have taken in 12 already.
+fn four_down(object: &[u8], top: usize, bottom: usize, s: FourSums) -> FourSums
+    requires { ⌜ (bottom ≤ top) × (top ≤ bottom + 12) × (top * 2 ≤ length (now object)) ⌝ }
+    ensures { λ r. ⌜ ((d : ℕ) → d ≤ 12 → FourFrom (now (object .entry)) top d s → FourTo (now (object .entry)) bottom (d + 12) r) ⌝ }
+{
+    let mut s1 = s.s1;
+    let mut s2 = s.s2;
+    let mut s3 = s.s3;
+    let mut s4 = s.s4;
     let mut i = top;
     while i > bottom {
         i -= 1;
@@ -139,14 +157,23 @@ fn four_down(object: &[u8], top: usize, bottom: usize, s: FourSums) -> FourSums
     FourSums { s1, s2, s3, s4 }
 }
 
+// 24 symbols from `at` on.
 fn four_block(object: &[u8], at: usize, s: FourSums) -> FourSums
-    requires { ⌜ ((at + 12) * 2 ≤ length (now object)) × Stands (now object) 1 (at + 12) (s .s1) × Stands (now object) 2 (at + 12) (s .s2) × Stands (now object) 3 (at + 12) (s .s3) × Stands (now object) 4 (at + 12) (s .s4) ⌝ }
-    ensures { λ r. ⌜ Stands (now (object .entry)) 1 at (r .s1) × Stands (now (object .entry)) 2 at (r .s2) × Stands (now (object .entry)) 3 at (r .s3) × Stands (now (object .entry)) 4 at (r .s4) ⌝ }
+    requires { ⌜ (at + 24) * 2 ≤ length (now object) ⌝ }
+    ensures { λ r. ⌜ (FourTo (now (object .entry)) (at + 24) 24 s → FourTo (now (object .entry)) at 24 r) ⌝ }
 {
-    let mut s1 = reduced(s.s1) as u64;
-    let mut s2 = reduced(s.s2) as u64;
-    let mut s3 = reduced(s.s3) as u64;
-    let mut s4 = reduced(s.s4) as u64;
+    four_half(object, at, halved(four_half(object, at + 12, whole(s))))
+}
+
+// The same as `four_down` over 12 symbols from `at` on, a count that the compiler knows.
+fn four_half(object: &[u8], at: usize, s: FourSums) -> FourSums
+    requires { ⌜ (at + 12) * 2 ≤ length (now object) ⌝ }
+    ensures { λ r. ⌜ ((d : ℕ) → d ≤ 12 → FourFrom (now (object .entry)) (at + 12) d s → FourTo (now (object .entry)) at (d + 12) r) ⌝ }
+{
+    let mut s1 = s.s1;
+    let mut s2 = s.s2;
+    let mut s3 = s.s3;
+    let mut s4 = s.s4;
     let mut i = at + 12;
     while i > at {
         i -= 1;
@@ -157,6 +184,30 @@ fn four_block(object: &[u8], at: usize, s: FourSums) -> FourSums
         s4 = (s4 << 4) ^ x;
     }
     FourSums { s1, s2, s3, s4 }
+}
+
+// Components 3 and 4 reduced, which have no room for more.
+fn halved(s: FourSums) -> FourSums
+    ensures { λ r. ⌜ ((object : List ℕ) (i d : ℕ) → FourTo object i d s → FourFrom object i d r) ⌝ }
+{
+    FourSums {
+        s1: s.s1,
+        s2: s.s2,
+        s3: reduced(s.s3) as u64,
+        s4: reduced(s.s4) as u64,
+    }
+}
+
+// All four reduced.
+fn whole(s: FourSums) -> FourSums
+    ensures { λ r. ⌜ ((object : List ℕ) (i d : ℕ) → FourTo object i d s → FourFrom object i 0 r) ⌝ }
+{
+    FourSums {
+        s1: reduced(s.s1) as u64,
+        s2: reduced(s.s2) as u64,
+        s3: reduced(s.s3) as u64,
+        s4: reduced(s.s4) as u64,
+    }
 }
 
 fn symbol(object: &[u8], i: usize) -> u64

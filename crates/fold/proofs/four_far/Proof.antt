@@ -4,18 +4,15 @@ use mathlib.Core.Path.{_∙_}
 use native.Mathlib.Omega.{arith}
 use borrow.Author.Needs.{needs}
 use Rattle.fold.specs.declared.Relation.the-variants.{FourFar}
-use Rattle.fold.proofs.Standing.{blank, fitting, four-kept}
+use Rattle.fold.proofs.Standing.{blank, four-kept}
 use Rattle.fold.proofs.four_far.Statement.{statement}
 use Rattle.fold.proofs.four_far.Tie as tie
 
-slice-aggregate-fold : tie.Need-slice-aggregate-fold
-slice-aggregate-fold c = search needs
+slice-aggregate-fold-far : tie.Need-slice-aggregate-fold-far
+slice-aggregate-fold-far c = search needs
 
-slice-aggregate-fold-2 : tie.Need-slice-aggregate-fold-2
-slice-aggregate-fold-2 c = search needs
-
-fold-requires : tie.Need-fold-requires
-fold-requires c κs = (fitting FourFar 2048 5688 (omega arith) (omega arith) (omega arith), blank 1592)
+fold-far-requires : tie.Need-fold-far-requires
+fold-far-requires c κs = blank 1592
 
 slice-aggregate-four-near : tie.Need-slice-aggregate-four-near
 slice-aggregate-four-near c = search needs
@@ -24,7 +21,7 @@ four-near-requires : tie.Need-four-near-requires
 four-near-requires c κs = search needs
 
 returns : tie.Need-returns
-returns c = c .four-near .ensures ∙ four-kept FourFar _ _ (omega arith) (c .before .before .before .before .fold .ensures)
+returns c = c .four-near .ensures ∙ four-kept FourFar _ _ (omega arith) (c .before .before .before .fold-far .ensures)
 
 pub four-far-spec : {M : Type 1} → statement M
-four-far-spec = tie.close (tie.spec slice-aggregate-fold slice-aggregate-fold-2 fold-requires slice-aggregate-four-near four-near-requires returns)
+four-far-spec = tie.close (tie.spec slice-aggregate-fold-far fold-far-requires slice-aggregate-four-near four-near-requires returns)

@@ -4,17 +4,17 @@ use mathlib.Core.Path.{_≡_, ap₂, subst}
 use Prim.Native.Nat.{ℕ, _+_, _-_, _*_, _/_, _%_, _≤_, _<_}
 use native.Mathlib.Omega.{arith}
 use lib.ListN.{length}
-use Rattle.horner.specs.Sums.{Stands}
-use Rattle.horner.proofs.Sums.{stands-last, stands-all}
+use Rattle.horner.specs.Sums.{TwoTo}
+use Rattle.horner.proofs.Sums.{sum-last, sum-all}
 use Rattle.horner.proofs.first_two.Statement.{statement}
 use Rattle.horner.proofs.first_two.Tie as tie
 
 abbrev Inv-loop : tie.InvT-loop
-Inv-loop object last s₀ at₀ s at =
-    (at % 24 ≡ 0) × (at * 2 ≤ length object) × Stands object 1 at (s .s1) × Stands object 2 at (s .s2)
+Inv-loop object last at₀ s₀ at s =
+    (at % 24 ≡ 0) × (at * 2 ≤ length object) × TwoTo object at s
 
 abbrev μ-loop : tie.MeasureT-loop
-μ-loop object last s₀ at₀ s at = at
+μ-loop object last at₀ s₀ at s = at
 
 odd-byte-requires : tie.Need-odd-byte-requires Inv-loop μ-loop
 odd-byte-requires c κs = tt
@@ -23,34 +23,32 @@ mul-at : tie.Need-mul-at Inv-loop μ-loop
 mul-at c = omega arith
 
 two-down-requires : tie.Need-two-down-requires Inv-loop μ-loop
-two-down-requires c κs = (
-  omega arith,
-  omega arith,
-  omega arith,
-  stands-last (c .before .before .args .object .now) (λ i. c .before .shared-slice-known .given i .fits) 1 _ (c .odd-byte .ensures),
-  stands-last (c .before .before .args .object .now) (λ i. c .before .shared-slice-known .given i .fits) 2 _ (c .odd-byte .ensures),
-)
+two-down-requires c κs = (omega arith, omega arith, omega arith)
 
 loop-holds : tie.Need-loop-holds Inv-loop μ-loop
-loop-holds c = (omega arith, omega arith, c .two-down .ensures .0, c .two-down .ensures .1)
+loop-holds c =
+    let object : _ = c .before .before .before .args .object .now in (
+      omega arith,
+      omega arith,
+      c .two-down .ensures (record { one = sum-last object (λ i. c .before .before .shared-slice-known .given i .fits) 1 _ (c .before .odd-byte .ensures); two = sum-last object (λ i. c .before .before .shared-slice-known .given i .fits) 2 _ (c .before .odd-byte .ensures) }),
+    )
 
 sub-at : tie.Need-sub-at Inv-loop μ-loop
 sub-at c = omega arith
 
 two-block-requires : tie.Need-two-block-requires Inv-loop μ-loop
-two-block-requires c κs =
-    let at : _ = c .before .loop in
-    let top : at .at ≡ at .at - 24 + 24 = omega arith in (
-      omega arith,
-      subst (λ (n : ℕ). Stands (c .before .before .before .before .before .args .object .now) 1 n (at .s .s1)) top (at .inv .2),
-      subst (λ (n : ℕ). Stands (c .before .before .before .before .before .args .object .now) 2 n (at .s .s2)) top (at .inv .3),
-    )
+two-block-requires c κs = omega arith
 
 loop-less : tie.Need-loop-less Inv-loop μ-loop
 loop-less c = omega arith
 
 loop-again : tie.Need-loop-again Inv-loop μ-loop
-loop-again c = (omega arith, omega arith, c .two-block .ensures .0, c .two-block .ensures .1)
+loop-again c =
+    let top : c .before .before .loop .at ≡ c .before .before .loop .at - 24 + 24 = omega arith in (
+      omega arith,
+      omega arith,
+      c .two-block .ensures (subst (λ (n : ℕ). TwoTo (c .before .before .before .before .before .before .args .object .now) n (c .before .before .loop .s)) top (c .before .before .loop .inv .2)),
+    )
 
 reduced-requires : tie.Need-reduced-requires Inv-loop μ-loop
 reduced-requires c κs = tt
@@ -63,7 +61,7 @@ returns c =
     let at : _ = c .before .before .before .loop in
     let none : at .at ≡ 0 = omega arith in
     let object : _ = c .before .before .before .before .before .before .before .args .object .now in
-    ap₂ (λ (x y : ℕ). record { s1 = x; s2 = y }) (stands-all object 1 none (c .before .reduced .ensures) (at .inv .2)) (stands-all object 2 none (c .reduced2 .ensures) (at .inv .3))
+    ap₂ (λ (x y : ℕ). record { s1 = x; s2 = y }) (sum-all object 1 none (c .before .reduced .ensures) (at .inv .2 .one)) (sum-all object 2 none (c .reduced2 .ensures) (at .inv .2 .two))
 
 pub first-two-spec : {M : Type 1} → statement M
 first-two-spec =

@@ -26,10 +26,10 @@ same-length c = search needs
 returns : tie.Need-returns
 returns c =
     let window : List ℕ = c .before .before .before .before .before .before .before .before .before .before .before .before .before .before .before .before .before .before .args .window .now in
-    landed-last 256 window (64 ∷ 208 ∷ 240 ∷ []) _
-    (landed-next 256 window (64 ∷ 208 ∷ []) 240 _ _
-    (landed-next 256 window (64 ∷ []) 208 _ _
-    (landed-next 256 window [] 64 _ _ (landed-first 256 window _ _ (c .before .before .before .before .before .before .before .before .before .before .before .before .before .before .before .before .before .before .pre .1) (c .before .before .before .before .before .before .before .before .before .before .before .before .before .before .add .ensures)) (c .before .before .before .before .before .before .before .before .before .before .add2 .ensures)) (c .before .before .before .before .before .before .add3 .ensures)) (c .before .before .add4 .ensures))
+    landed-last 178 window (134 ∷ 136 ∷ 152 ∷ []) _
+    (landed-next 178 window (134 ∷ 136 ∷ []) 152 _ _
+    (landed-next 178 window (134 ∷ []) 136 _ _
+    (landed-next 178 window [] 134 _ _ (landed-first 178 window _ _ (c .before .before .before .before .before .before .before .before .before .before .before .before .before .before .before .before .before .before .pre .1) (c .before .before .before .before .before .before .before .before .before .before .before .before .before .before .add .ensures)) (c .before .before .before .before .before .before .before .before .before .before .add2 .ensures)) (c .before .before .before .before .before .before .add3 .ensures)) (c .before .before .add4 .ensures))
 
 pub land-pair-near-spec : {M : Type 1} → statement M
 land-pair-near-spec = tie.close (tie.spec add-requires add-requires-2 add-requires-3 add-requires-4 same-length returns)

@@ -1,4 +1,4 @@
--- `fold::taking::pair_near` meets its contract: it gathers at the offsets of x^128 = x^96 + x^24 + x^8 + 1.
+-- `fold::taking::pair_near` meets its contract: it gathers at the offsets of x^89 = x^22 + x^21 + x^13 + 1.
 -- Assumes nothing.
 use mathlib.Core.Path.{refl}
 use borrow.Author.Needs.{needs}
