@@ -1,6 +1,6 @@
 # make demo: the library at work.   make test: everything that is promised, proved and run from nothing.   make fuzz: the library against the second
-# program, until they differ.   make command: the command cotelark, target/cargo/release/cotelark.
-.PHONY: demo test fuzz command kit archive
+# program, until they differ.   make command: the command cotelark, target/cargo/release/cotelark.   make bench: how fast it is, beside its peers.
+.PHONY: demo test fuzz bench command kit archive
 
 # A cargo that rustup put there may not be on the PATH.
 export PATH := $(PATH):$(HOME)/.cargo/bin
@@ -26,6 +26,10 @@ test: kit
 fuzz: kit archive
 	host/tools cargo
 	cd host && cargo run --release --offline --quiet --bin fuzz -- $(SEED)
+
+# A measurement and no test: what is slow fails nothing.
+bench: archive
+	@bench/run
 
 # The static library that C and Rust link, with the proofs that it needs; made anew when a line of Rattle has changed.
 archive: kit $(ARCHIVE)
