@@ -1,18 +1,21 @@
--- The quick reduction is the field's own, and a sum of 64 digits that is shifted by j and has a symbol added takes Horner's step in component j. Each is
--- one computed test on the powers of two, since both sides are additive.
+-- The quick reduction is the field's own, by one computed test on the powers of two, since both are additive; and a sum of 64 digits that is shifted by i is
+-- multiplied by α^i.
 -- Assumes nothing.
 use mathlib.Core.Path.{_≡_, refl, sym, ap, ap₂, _∙_, subst}
 use mathlib.Core.Bool.{Bool}
-use Prim.Native.Nat.{ℕ, suc, _+_, _-_, _*_, _/_, _%_, _^_, _≤_, _<_}
+use Prim.Native.Nat.{ℕ, zero, suc, _+_, _*_, _/_, _%_, _^_, _≤_, _<_}
 use native.Mathlib.Omega.{arith}
-use native.Mathlib.Nat.{mod-eq-of-lt, mul-lt-mul-of-pos-right}
+use native.Mathlib.Nat.{mod-eq-of-lt, mod-lt, mul-one, mul-assoc, pow-suc, mul-le-mul-left, lt-of-le-of-lt}
 use lib.Bits.{bitXor, xor-shr, xor-mod}
 use lib.Dec.{T, eqb, eqb→eq}
-use lib.Pow.{pow-pos, pow-add}
-use Rattle.field.specs.Field.{GF16, _⊕_, digit, expanded, reduced, product, power, α}
-use Rattle.field.proofs.Sums.{sum-cross, sum-shift, sum-comm}
+use lib.Pow.{pow-pos}
+use Rattle.field.specs.Field.{GF16, _⊕_, digit, scaled, reduced, doubled, product, power, α}
+use Rattle.field.proofs.Sums.{zero-sum, sum-cross, sum-shift, sum-comm}
 use Rattle.field.proofs.Additive.{Additive, agree}
-use Rattle.field.proofs.Reducing.{reduced-sum, reduced-below, sum-product}
+use Rattle.field.proofs.Reducing.{reduced-sum, reduced-shift, digit-above}
+use Rattle.field.proofs.Products.{product-element, product-assoc, product-one, product-two}
+use Rattle.field.proofs.Powers.{α-element, α-power}
+use Rattle.field.proofs.Instances.{GF16-formed}
 use Rattle.field.proofs.Tests.{below, at-below}
 
 -- ---- additive maps
@@ -102,45 +105,47 @@ quick =
     agree (λ s. taken-off s (quotient s)) (reduced GF16 48) (quick-sum .adds) (reduced-sum GF16 48) 64
     (λ i h. eqb→eq _ _ (at-below quick-at 64 quick-passes i h))
 
--- ---- a step of Horner's rule
+-- ---- shifts
 
-step-at : ℕ → ℕ → Bool
-step-at j i = eqb (reduced GF16 48 (2 ^ i * 2 ^ j)) (product GF16 (reduced GF16 48 (2 ^ i)) (power GF16 α j))
+le-mul-pow : (s i : ℕ) → s ≤ s * 2 ^ i
+le-mul-pow s i = subst (λ (n : ℕ). n ≤ s * 2 ^ i) (mul-one s) (mul-le-mul-left s (pow-pos i))
 
--- j from 1 to 4, at the powers of two that stay below 2^64
-steps : ℕ → Bool
-steps i = below (λ k. step-at (suc i) k) (63 - i)
+reduced-element : (s : ℕ) → s < 2 ^ 64 → reduced GF16 48 s < 2 ^ 16
+unfolding taken-off
+reduced-element s h = subst (λ (n : ℕ). n < 2 ^ 16) (quick s h) (mod-lt (s ⊕ quotient s ⊕ quotient s * 2 ^ 1 % 2 ^ 64 ⊕ quotient s * 2 ^ 3 % 2 ^ 64 ⊕ quotient s * 2 ^ 12 % 2 ^ 64) (pow-pos 16))
 
-steps-pass : T (below steps 4)
-unfolding below steps step-at reduced product expanded power digit _⊕_
-steps-pass = tt
+-- where the highest digit is free
+reduced-double : (u : ℕ) → u < 2 ^ 63 → reduced GF16 48 (u * 2) ≡ doubled GF16 (reduced GF16 48 u)
+unfolding reduced
+reduced-double u h = reduced-shift GF16 47 u ∙ ap (doubled GF16) (ap (reduced GF16 47) (sym (ap (λ (d : ℕ). scaled d (GF16 .polynomial * 2 ^ 47) ⊕ u) (digit-above 63 h) ∙ zero-sum u)))
 
-shift : (j : ℕ) → 1 ≤ j → j ≤ 4 → (s : ℕ) → s < 2 ^ (64 - j) → reduced GF16 48 (s * 2 ^ j) ≡ product GF16 (reduced GF16 48 s) (power GF16 α j)
-unfolding steps step-at
-shift (suc i) one h s fits =
-    agree (λ s. reduced GF16 48 (s * 2 ^ suc i)) (λ s. product GF16 (reduced GF16 48 s) (power GF16 α (suc i)))
-    (after reducing (shifted (suc i)) .adds) (after scaling reducing .adds) (63 - i)
-    (λ k l. eqb→eq _ _ (at-below (λ k. step-at (suc i) k) (63 - i) (at-below steps 4 steps-pass i h) k l)) s (subst (λ (k : ℕ). s < 2 ^ k) count fits)
+pub shifted-product : (i s : ℕ) → s * 2 ^ i < 2 ^ 64 → reduced GF16 48 (s * 2 ^ i) ≡ product GF16 (reduced GF16 48 s) (power GF16 α i)
+unfolding power
+shifted-product zero s h =
+    ap (reduced GF16 48) (mul-one s) ∙ sym (product-one GF16 GF16-formed (reduced-element s (subst (λ (n : ℕ). n < 2 ^ 64) (mul-one s) h)))
+shifted-product (suc i) s h =
+    ap (reduced GF16 48) twice
+    ∙ reduced-double (s * 2 ^ i) half
+    ∙ ap (doubled GF16) (shifted-product i s less)
+    ∙ sym (product-two GF16 GF16-formed (product-element GF16 GF16-formed (power GF16 α i) small))
+    ∙ product-assoc GF16 GF16-formed small (α-power GF16 GF16-formed i) (α-element GF16 GF16-formed)
   where
-    count : 64 - suc i ≡ 63 - i
-    count = omega arith
+    twice : s * 2 ^ suc i ≡ s * 2 ^ i * 2
+    twice = ap (λ (n : ℕ). s * n) (pow-suc 2 i) ∙ sym (mul-assoc s (2 ^ i) 2)
 
-    reducing : Adds (reduced GF16 48)
-    reducing = record { adds = reduced-sum GF16 48 }
+    half : s * 2 ^ i < 2 ^ 63
+    half = omega (arith, subst (λ (n : ℕ). n < 2 ^ 64) twice h)
 
-    scaling : Adds (λ a. product GF16 a (power GF16 α (suc i)))
-    scaling = record { adds = sum-product GF16 (power GF16 α (suc i)) }
+    less : s * 2 ^ i < 2 ^ 64
+    less = omega (arith, half)
 
-pub step : (j : ℕ) → 1 ≤ j → j ≤ 4 → (s x : ℕ) → s < 2 ^ (64 - j) → x < 2 ^ 16
-    → reduced GF16 48 (s * 2 ^ j % 2 ^ 64 ⊕ x) ≡ x ⊕ product GF16 (reduced GF16 48 s) (power GF16 α j)
-step j one h s x fits small =
-    ap (λ (n : ℕ). reduced GF16 48 (n ⊕ x)) (mod-eq-of-lt room)
-    ∙ reduced-sum GF16 48 (s * 2 ^ j) x
-    ∙ ap₂ _⊕_ (shift j one h s fits) (reduced-below GF16 48 small)
-    ∙ sum-comm _ x
-  where
-    count : 64 - j + j ≡ 64
-    count = omega (arith, h)
+    small : reduced GF16 48 s < 2 ^ 16
+    small = reduced-element s (lt-of-le-of-lt (le-mul-pow s i) less)
 
-    room : s * 2 ^ j < 2 ^ 64
-    room = subst (λ (n : ℕ). s * 2 ^ j < n) (sym (pow-add 2 (64 - j) j) ∙ ap (λ (n : ℕ). 2 ^ n) count) (mul-lt-mul-of-pos-right fits (pow-pos j))
+-- s shifted by i, and b added below
+pub step : (i s b : ℕ) → s * 2 ^ i < 2 ^ 64 → reduced GF16 48 (s * 2 ^ i % 2 ^ 64 ⊕ b) ≡ reduced GF16 48 b ⊕ product GF16 (reduced GF16 48 s) (power GF16 α i)
+step i s b room =
+    ap (λ (n : ℕ). reduced GF16 48 (n ⊕ b)) (mod-eq-of-lt room)
+    ∙ reduced-sum GF16 48 (s * 2 ^ i) b
+    ∙ ap (λ (x : ℕ). x ⊕ reduced GF16 48 b) (shifted-product i s room)
+    ∙ sum-comm _ (reduced GF16 48 b)

@@ -4,19 +4,21 @@ use mathlib.Core.Path.{_≡_, refl, sym, ap, ap₂, _∙_, subst}
 use mathlib.Core.Logic.{dite, ⊎-elim}
 use mathlib.Core.List.{List}
 use Prim.Native.Nat.{ℕ, zero, suc, _+_, _-_, _*_, _/_, _%_, _^_, _≤_, _<_}
-use native.Mathlib.Nat.{mod-eq-of-lt, mul-lt-mul-of-pos-right, lt-of-lt-of-le, mul-suc, add-assoc, eq-or-lt-of-le, mul-zero, mul-le-mul-left}
+use native.Mathlib.Nat.{mod-eq-of-lt, mul-lt-mul-of-pos-right, lt-of-lt-of-le, mul-suc, mul-add, add-assoc, eq-or-lt-of-le, mul-zero, mul-le-mul-left}
 use native.Mathlib.Decide.{decLt}
 use native.Mathlib.Omega.{arith}
-use lib.ListN.{length, getD, List·getD-eq-default}
+use lib.ListN.{length, getD, take, length-take}
+use lib.Seq.{getD-take}
 use lib.Pow.{pow-pos, pow-add, pow-mono}
 use Rattle.field.specs.Field.{GF16, _⊕_, reduced, product, power, α}
 use Rattle.field.proofs.Sums.{sum-lt, sum-zero}
 use Rattle.field.proofs.Reducing.{reduced-below, zero-product}
 use Rattle.field.proofs.Instances.{GF16-formed}
 use Rattle.components.specs.Objects.{Octets, lowFirst, symbol, symbols}
-use Rattle.components.specs.Components.{signature}
-use Rattle.components.proofs.Components.{from, from-end, from-start, from-turn}
+use Rattle.components.specs.Components.{component, signature}
+use Rattle.components.proofs.Components.{component-same, component-parts, from, from-end, from-start, from-turn}
 use Rattle.components.proofs.Octets.{GF16-symbol}
+use Rattle.components.proofs.Pairs.{symbol-same}
 use Rattle.components.proofs.Windows.{symbol-past}
 use Rattle.horner.specs.Sums.{Sum}
 use Rattle.horner.proofs.Reducing.{step}
@@ -36,6 +38,15 @@ sum-here object j i d s sum = subst (λ (n : ℕ). Sum object j i n s) here sum
     here : d ≡ d + (i - i)
     here = omega arith
 
+-- past the end there is nothing
+pub sum-none : (object : List ℕ) (j i : ℕ) → symbols 2 object ≡ i → Sum object j i 0 0
+unfolding from
+sum-none object j i end =
+    record {
+      stands = reduced-below GF16 48 (pow-pos 16) ∙ sym (ap (λ (n : ℕ). from GF16 (symbols 2 object) (symbol 2 object) j n) (sym end) ∙ from-end GF16 (symbols 2 object) (symbol 2 object) j);
+      below = pow-pos (16 + j * 0);
+    }
+
 -- one that has room for more than it took
 pub sum-more : (object : List ℕ) (j i d e s : ℕ) → d ≤ e → Sum object j i d s → Sum object j i e s
 sum-more object j i d e s h sum = record { stands = sum .stands; below = lt-of-lt-of-le (sum .below) (pow-mono more) }
@@ -50,8 +61,8 @@ module _ (object : List ℕ) (octets : Octets object) where
   sum-turn j i d s x one four few inside here sum =
       record {
         stands =
-            step j one four s x short small
-            ∙ ap₂ (λ (y z : ℕ). y ⊕ product GF16 z (power GF16 α j)) here (sum .stands)
+            step j s x room
+            ∙ ap₂ (λ (y z : ℕ). y ⊕ product GF16 z (power GF16 α j)) (reduced-below GF16 48 small ∙ here) (sum .stands)
             ∙ from-turn GF16 GF16-formed (symbols 2 object) (symbol 2 object) j i inside (GF16-symbol object octets);
         below = sum-lt (16 + j * suc d) (subst (λ (n : ℕ). n < 2 ^ (16 + j * suc d)) (sym (mod-eq-of-lt room)) grown) (lt-of-lt-of-le small (pow-mono more));
       }
@@ -61,9 +72,6 @@ module _ (object : List ℕ) (octets : Octets object) where
 
       count : j * suc d ≡ j * d + j
       count = mul-suc j d
-
-      short : s < 2 ^ (64 - j)
-      short = lt-of-lt-of-le (sum .below) (pow-mono (omega (arith, few, count)))
 
       more : 16 ≤ 16 + j * suc d
       more = omega arith
@@ -94,6 +102,64 @@ module _ (object : List ℕ) (octets : Octets object) where
 
       within : i - 1 < symbols 2 object
       within = omega (arith, some, inside)
+
+  -- the symbols below a place, as an object of their own
+  pub head-symbol : (n k : ℕ) → k < n → symbol 2 object k ≡ symbol 2 (take (n * 2) object) k
+  head-symbol n k h =
+      symbol-same object (take (n * 2) object) k k (sym (getD-take (n * 2) object (k * 2) 0 (omega (arith, h)))) (sym (getD-take (n * 2) object (suc (k * 2)) 0 (omega (arith, h))))
+
+  -- sums that stand above a block, and the block's own: shifted over it, they are those from its first symbol on
+  pub sum-joined : (j at count d s b : ℕ) → (at + count) * 2 ≤ length object → j * (d + count) ≤ 48 → Sum object j (at + count) d s
+      → Sum (take ((at + count) * 2) object) j at count b → Sum object j at (d + count) (s * 2 ^ (j * count) % 2 ^ 64 ⊕ b)
+  sum-joined j at count d s b whole few above block =
+      record {
+        stands =
+            step (j * count) s b room
+            ∙ ap₂ (λ (x y : ℕ). x ⊕ product GF16 y (power GF16 α (j * count))) own (above .stands)
+            ∙ sym parts;
+        below = sum-lt (16 + j * (d + count)) (subst (λ (n : ℕ). n < 2 ^ (16 + j * (d + count))) (sym (mod-eq-of-lt room)) grown) (lt-of-lt-of-le (block .below) (pow-mono more));
+      }
+    where
+      head : List ℕ
+      head = take ((at + count) * 2) object
+
+      spread : j * (d + count) ≡ j * d + j * count
+      spread = mul-add j d count
+
+      more : 16 + j * count ≤ 16 + j * (d + count)
+      more = omega (arith, spread)
+
+      top : 16 + j * (d + count) ≤ 64
+      top = omega (arith, few)
+
+      grown : s * 2 ^ (j * count) < 2 ^ (16 + j * (d + count))
+      grown =
+          subst (λ (n : ℕ). s * 2 ^ (j * count) < n) (sym (pow-add 2 (16 + j * d) (j * count)) ∙ ap (λ (n : ℕ). 2 ^ n) (add-assoc 16 (j * d) (j * count) ∙ ap (λ (n : ℕ). 16 + n) (sym spread)))
+          (mul-lt-mul-of-pos-right (above .below) (pow-pos (j * count)))
+
+      room : s * 2 ^ (j * count) < 2 ^ 64
+      room = lt-of-lt-of-le grown (pow-mono top)
+
+      counted : symbols 2 (take ((at + count) * 2) object) - at ≡ count
+      counted = omega (arith, whole, length-take ((at + count) * 2) object)
+
+      own : reduced GF16 48 b ≡ component GF16 count (λ k. symbol 2 object (at + k)) j
+      own =
+          block .stands
+          ∙ ap (λ (n : ℕ). component GF16 n (λ k. symbol 2 (take ((at + count) * 2) object) (at + k)) j) counted
+          ∙ component-same GF16 count _ (λ k. symbol 2 object (at + k)) j (λ k h. sym (head-symbol (at + count) (at + k) (omega (arith, h))))
+
+      all : symbols 2 object - at ≡ count + (symbols 2 object - (at + count))
+      all = omega (arith, whole)
+
+      parts : component GF16 (symbols 2 object - at) (λ k. symbol 2 object (at + k)) j
+          ≡ component GF16 count (λ k. symbol 2 object (at + k)) j
+          ⊕ product GF16 (component GF16 (symbols 2 object - (at + count)) (λ k. symbol 2 object (at + count + k)) j) (power GF16 α (j * count))
+      parts =
+          ap (λ (n : ℕ). component GF16 n (λ k. symbol 2 object (at + k)) j) all
+          ∙ component-parts GF16 GF16-formed count (symbols 2 object - (at + count)) (λ k. symbol 2 object (at + k)) j (λ k h. GF16-symbol object octets (at + (count + k)))
+          ∙ ap (λ (x : ℕ). component GF16 count (λ k. symbol 2 object (at + k)) j ⊕ product GF16 x (power GF16 α (j * count)))
+          (component-same GF16 (symbols 2 object - (at + count)) _ (λ k. symbol 2 object (at + count + k)) j (λ k h. ap (symbol 2 object) (sym (add-assoc at count k))))
 
   -- before the first turn: an odd last byte is a symbol
   pub sum-last : (j s : ℕ) → s ≡ symbol 2 object (length object / 2) → Sum object j (length object / 2) 0 s

@@ -95,13 +95,13 @@ fn two_down(object: &[u8], top: usize, bottom: usize, s: TwoSums) -> TwoSums
     TwoSums { s1, s2 }
 }
 
-// The same over 24 symbols from `at` on, a count that the compiler knows.
+// The same over 24 symbols from `at` on. They are summed by themselves, which need not wait for the sums above them.
 fn two_block(object: &[u8], at: usize, s: TwoSums) -> TwoSums
     requires { ⌜ (at + 24) * 2 ≤ length (now object) ⌝ }
     ensures { λ r. ⌜ (TwoTo (now (object .entry)) (at + 24) s → TwoTo (now (object .entry)) at r) ⌝ }
 {
-    let mut s1 = reduced(s.s1) as u64;
-    let mut s2 = reduced(s.s2) as u64;
+    let mut s1: u64 = 0;
+    let mut s2: u64 = 0;
     let mut i = at + 24;
     while i > at {
         i -= 1;
@@ -109,7 +109,10 @@ fn two_block(object: &[u8], at: usize, s: TwoSums) -> TwoSums
         s1 = (s1 << 1) ^ x;
         s2 = (s2 << 2) ^ x;
     }
-    TwoSums { s1, s2 }
+    TwoSums {
+        s1: ((reduced(s.s1) as u64) << 24) ^ s1,
+        s2: ((reduced(s.s2) as u64) << 48) ^ s2,
+    }
 }
 
 // The symbols above the whole blocks, fewer than 24, and an odd last byte.
@@ -165,15 +168,15 @@ fn four_block(object: &[u8], at: usize, s: FourSums) -> FourSums
     four_half(object, at, halved(four_half(object, at + 12, whole(s))))
 }
 
-// The same as `four_down` over 12 symbols from `at` on, a count that the compiler knows.
+// The same as `four_down` over 12 symbols from `at` on, which are summed by themselves.
 fn four_half(object: &[u8], at: usize, s: FourSums) -> FourSums
     requires { ⌜ (at + 12) * 2 ≤ length (now object) ⌝ }
     ensures { λ r. ⌜ ((d : ℕ) → d ≤ 12 → FourFrom (now (object .entry)) (at + 12) d s → FourTo (now (object .entry)) at (d + 12) r) ⌝ }
 {
-    let mut s1 = s.s1;
-    let mut s2 = s.s2;
-    let mut s3 = s.s3;
-    let mut s4 = s.s4;
+    let mut s1: u64 = 0;
+    let mut s2: u64 = 0;
+    let mut s3: u64 = 0;
+    let mut s4: u64 = 0;
     let mut i = at + 12;
     while i > at {
         i -= 1;
@@ -183,7 +186,12 @@ fn four_half(object: &[u8], at: usize, s: FourSums) -> FourSums
         s3 = (s3 << 3) ^ x;
         s4 = (s4 << 4) ^ x;
     }
-    FourSums { s1, s2, s3, s4 }
+    FourSums {
+        s1: (s.s1 << 12) ^ s1,
+        s2: (s.s2 << 24) ^ s2,
+        s3: (s.s3 << 36) ^ s3,
+        s4: (s.s4 << 48) ^ s4,
+    }
 }
 
 // Components 3 and 4 reduced, which have no room for more.
