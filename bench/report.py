@@ -179,7 +179,7 @@ def tables():
 # The picture: both axes are logarithmic.
 WIDTH, HEIGHT = 900, 560
 LEFT, RIGHT, TOP, BOTTOM = 64, 212, 46, 52
-COLOURS = ["#b2182b", "#d6604d", "#e38b68", "#4d4d4d", "#1f7f86", "#8c6d31", "#1b7837", "#2166ac", "#4a9a52", "#762a83", "#6a6a6a", "#8f8f8f"]
+COLOURS = ["#b2182b", "#d6604d", "#e38b68", "#4d4d4d", "#1f7f86", "#8c6d31", "#1b7837", "#2166ac", "#4a9a52", "#762a83", "#6a6a6a", "#8f8f8f", "#b5a400"]
 LABEL_GAP = 17
 
 

@@ -49,41 +49,58 @@ sub-block c = omega (arith, c .before .before .before .before .pre .0 .whole, c 
 
 div-blocks : tie.Need-div-blocks Inv-loop μ-loop
 div-blocks c =
-    let k : _ = cut (c .before .before .before .before .pre .0) (length (c .before .before .before .before .args .page .now)) (c .reach-of .ensures) in
+    let pre : _ = c .before .before .before .before .pre in
+    let args : _ = c .before .before .before .before .args in
+    let k : _ = cut (pre .0) (length (args .page .now)) (c .reach-of .ensures) in
     k .some
 
 mul-down : tie.Need-mul-down Inv-loop μ-loop
 mul-down c =
-    let k : _ = cut (c .before .before .before .before .pre .0) (length (c .before .before .before .before .args .page .now)) (c .reach-of .ensures) in
+    let pre : _ = c .before .before .before .before .pre in
+    let args : _ = c .before .before .before .before .args in
+    let k : _ = cut (pre .0) (length (args .page .now)) (c .reach-of .ensures) in
     omega (arith, k .whole)
 
 sub-down : tie.Need-sub-down Inv-loop μ-loop
 sub-down c =
-    let k : _ = cut (c .before .before .before .before .pre .0) (length (c .before .before .before .before .args .page .now)) (c .reach-of .ensures) in
+    let pre : _ = c .before .before .before .before .pre in
+    let args : _ = c .before .before .before .before .args in
+    let k : _ = cut (pre .0) (length (args .page .now)) (c .reach-of .ensures) in
     omega (arith, k .whole)
 
 part-down-start : tie.Need-part-down-start Inv-loop μ-loop
 part-down-start c =
-    let k : _ = cut (c .before .before .before .before .pre .0) (length (c .before .before .before .before .args .page .now)) (c .reach-of .ensures) in
+    let pre : _ = c .before .before .before .before .pre in
+    let args : _ = c .before .before .before .before .args in
+    let k : _ = cut (pre .0) (length (args .page .now)) (c .reach-of .ensures) in
     omega (arith, k .whole)
 
 part-down-end : tie.Need-part-down-end Inv-loop μ-loop
 part-down-end c =
-    let k : _ = cut (c .before .before .before .before .pre .0) (length (c .before .before .before .before .args .page .now)) (c .reach-of .ensures) in
+    let pre : _ = c .before .before .before .before .pre in
+    let args : _ = c .before .before .before .before .args in
+    let k : _ = cut (pre .0) (length (args .page .now)) (c .reach-of .ensures) in
     omega (arith, k .whole)
 
 down-requires : tie.Need-down-requires Inv-loop μ-loop
 down-requires c κs =
-    let k : _ = cut (c .before .before .before .before .before .before .pre .0) (length (c .before .before .before .before .before .before .args .page .now)) (c .before .before .reach-of .ensures) in
-    let at : ℕ = length (c .before .before .before .before .before .before .args .page .now) / (length (c .before .before .before .before .before .before .args .window .now) - c .before .before .reach-of .result) * (length (c .before .before .before .before .before .before .args .window .now) - c .before .before .reach-of .result) in
-    omega (arith, k .whole, k .rest, k .all, length-take (length (c .before .before .before .before .before .before .args .page .now) - at) (drop at (c .before .before .before .before .before .before .args .page .now)))
+    let pre : _ = c .before .before .before .before .before .before .pre in
+    let args : _ = c .before .before .before .before .before .before .args in
+    let k : _ = cut (pre .0) (length (args .page .now)) (c .before .before .reach-of .ensures) in
+    let at : ℕ = length (args .page .now) / (length (args .window .now) - c .before .before .reach-of .result) * (length
+    (args .window .now) - c .before .before .reach-of .result) in
+    omega (arith, k .whole, k .rest, k .all, length-take (length (args .page .now) - at) (drop at (args .page .now)))
 
 loop-holds : tie.Need-loop-holds Inv-loop μ-loop
 loop-holds c =
-    let k : _ = cut (c .before .before .before .before .before .before .before .before .before .pre .0) (length (c .before .before .before .before .before .before .before .before .before .args .page .now)) (c .before .before .before .before .before .reach-of .ensures) in
-    let page : List ℕ = c .before .before .before .before .before .before .before .before .before .args .page .now in
-    let at : ℕ = length page / (length (c .before .before .before .before .before .before .before .before .before .args .window .now) - c .before .before .before .before .before .reach-of .result) * (length (c .before .before .before .before .before .before .before .before .before .args .window .now) - c .before .before .before .before .before .reach-of .result) in (
-      standing-first (c .before .before .before .before .before .before .before .before .before .args .r) (c .before .before .before .before .before .before .before .before .before .args .window .now) (c .before .before .before .before .before .before .before .before .before .pre .0) page (λ i. c .before .before .before .before .before .before .before .before .shared-slice-known .given i .fits) _ _ at (part-rest at page)
+    let reach-of-call : _ = c .before .before .before .before .before .reach-of in
+    let pre : _ = c .before .before .before .before .before .before .before .before .before .pre in
+    let args : _ = c .before .before .before .before .before .before .before .before .before .args in
+    let known : _ = c .before .before .before .before .before .before .before .before .shared-slice-known in
+    let k : _ = cut (pre .0) (length (args .page .now)) (reach-of-call .ensures) in
+    let page : List ℕ = args .page .now in
+    let at : ℕ = length page / (length (args .window .now) - reach-of-call .result) * (length (args .window .now) - reach-of-call .result) in (
+      standing-first (args .r) (args .window .now) (pre .0) page (λ i. known .given i .fits) _ _ at (part-rest at page)
           (λ i. c .slice-known3 .given i .fits) (c .before .window .given) (k .whole) (omega (arith, k .rest, k .even)) (c .before .before .down .ensures),
       k .whole,
       refl,
@@ -95,75 +112,121 @@ sub-blocks c = omega arith
 
 mul-at : tie.Need-mul-at Inv-loop μ-loop
 mul-at c =
-    let b : _ = block-below (c .before .loop .blocks) (length (c .before .before .before .before .before .before .before .before .before .before .before .args .window .now) - c .before .before .before .before .before .before .before .reach-of .result) (omega arith) in
+    let reach-of-call : _ = c .before .before .before .before .before .before .before .reach-of in
+    let args : _ = c .before .before .before .before .before .before .before .before .before .before .before .args in
+    let b : _ = block-below (c .before .loop .blocks) (length (args .window .now) - reach-of-call .result) (omega arith) in
     omega (arith, b, c .before .loop .inv .1)
 
 raise-requires : tie.Need-raise-requires Inv-loop μ-loop
 raise-requires c κs =
-    let k : _ = cut (c .before .before .before .before .before .before .before .before .before .before .before .before .pre .0) (length (c .before .before .before .before .before .before .before .before .before .before .before .before .args .page .now)) (c .before .before .before .before .before .before .before .before .reach-of .ensures) in
-    (omega (arith, k .roomy, c .before .before .before .before .before .before .before .before .reach-of .ensures), omega (arith, k .all, c .before .before .before .before .before .before .before .before .reach-of .ensures, (c .before .before .loop .inv .2 ∙ c .before .before .before .before .window .given)))
+    let window-call : _ = c .before .before .before .before .window in
+    let reach-of-call : _ = c .before .before .before .before .before .before .before .before .reach-of in
+    let pre : _ = c .before .before .before .before .before .before .before .before .before .before .before .before .pre in
+    let args : _ = c .before .before .before .before .before .before .before .before .before .before .before .before .args in
+    let k : _ = cut (pre .0) (length (args .page .now)) (reach-of-call .ensures) in
+    (omega (arith, k .roomy, reach-of-call .ensures), omega (arith, k .all, reach-of-call .ensures, (c .before .before .loop .inv .2 ∙ window-call .given)))
 
 add-down : tie.Need-add-down Inv-loop μ-loop
 add-down c =
-    let b : _ = block-below (c .before .before .before .before .before .loop .blocks) (length (c .before .before .before .before .before .before .before .before .before .before .before .before .before .before .before .args .window .now) - c .before .before .before .before .before .before .before .before .before .before .before .reach-of .result) (omega arith) in
-    omega (arith, b, c .before .before .before .before .before .loop .inv .1)
+    let turn : _ = c .before .before .before .before .before .loop in
+    let reach-of-call : _ = c .before .before .before .before .before .before .before .before .before .before .before .reach-of in
+    let args : _ = c .before .before .before .before .before .before .before .before .before .before .before .before .before .before .before .args in
+    let b : _ = block-below (turn .blocks) (length (args .window .now) - reach-of-call .result) (omega arith) in
+    omega (arith, b, turn .inv .1)
 
 sub-down-2 : tie.Need-sub-down-2 Inv-loop μ-loop
 sub-down-2 c =
-    let b : _ = block-below (c .before .before .before .before .before .loop .blocks) (length (c .before .before .before .before .before .before .before .before .before .before .before .before .before .before .before .args .window .now) - c .before .before .before .before .before .before .before .before .before .before .before .reach-of .result) (omega arith) in
-    omega (arith, b, c .before .before .before .before .before .loop .inv .1)
+    let turn : _ = c .before .before .before .before .before .loop in
+    let reach-of-call : _ = c .before .before .before .before .before .before .before .before .before .before .before .reach-of in
+    let args : _ = c .before .before .before .before .before .before .before .before .before .before .before .before .before .before .before .args in
+    let b : _ = block-below (turn .blocks) (length (args .window .now) - reach-of-call .result) (omega arith) in
+    omega (arith, b, turn .inv .1)
 
 part-down-start-2 : tie.Need-part-down-start-2 Inv-loop μ-loop
 part-down-start-2 c =
-    let b : _ = block-below (c .before .before .before .before .before .loop .blocks) (length (c .before .before .before .before .before .before .before .before .before .before .before .before .before .before .before .args .window .now) - c .before .before .before .before .before .before .before .before .before .before .before .reach-of .result) (omega arith) in
-    omega (arith, b, c .before .before .before .before .before .loop .inv .1)
+    let turn : _ = c .before .before .before .before .before .loop in
+    let reach-of-call : _ = c .before .before .before .before .before .before .before .before .before .before .before .reach-of in
+    let args : _ = c .before .before .before .before .before .before .before .before .before .before .before .before .before .before .before .args in
+    let b : _ = block-below (turn .blocks) (length (args .window .now) - reach-of-call .result) (omega arith) in
+    omega (arith, b, turn .inv .1)
 
 part-down-end-2 : tie.Need-part-down-end-2 Inv-loop μ-loop
 part-down-end-2 c =
-    let b : _ = block-below (c .before .before .before .before .before .loop .blocks) (length (c .before .before .before .before .before .before .before .before .before .before .before .before .before .before .before .args .window .now) - c .before .before .before .before .before .before .before .before .before .before .before .reach-of .result) (omega arith) in
-    omega (arith, b, c .before .before .before .before .before .loop .inv .1)
+    let turn : _ = c .before .before .before .before .before .loop in
+    let reach-of-call : _ = c .before .before .before .before .before .before .before .before .before .before .before .reach-of in
+    let args : _ = c .before .before .before .before .before .before .before .before .before .before .before .before .before .before .before .args in
+    let b : _ = block-below (turn .blocks) (length (args .window .now) - reach-of-call .result) (omega arith) in
+    omega (arith, b, turn .inv .1)
 
 down-requires-2 : tie.Need-down-requires-2 Inv-loop μ-loop
 down-requires-2 c κs =
-    let k : _ = cut (c .before .before .before .before .before .before .before .before .before .before .before .before .before .before .before .before .before .pre .0) (length (c .before .before .before .before .before .before .before .before .before .before .before .before .before .before .before .before .before .args .page .now)) (c .before .before .before .before .before .before .before .before .before .before .before .before .before .reach-of .ensures) in
-    let b : _ = block-below (c .before .before .before .before .before .before .before .loop .blocks) (length (c .before .before .before .before .before .before .before .before .before .before .before .before .before .before .before .before .before .args .window .now) - c .before .before .before .before .before .before .before .before .before .before .before .before .before .reach-of .result) (omega arith) in
-    let size : ℕ = length (c .before .before .before .before .before .before .before .before .before .before .before .before .before .before .before .before .before .args .window .now) - c .before .before .before .before .before .before .before .before .before .before .before .before .before .reach-of .result in
-    let at : ℕ = (c .before .before .before .before .before .before .before .loop .blocks - 1) * size in
-    omega (arith, b, c .before .before .before .before .before .before .before .loop .inv .1, (c .before .before .before .before .before .before .before .loop .inv .2 ∙ c .before .before .before .before .before .before .before .before .before .window .given), c .before .before .before .window2 .given, k .all, length-take (at + size - at) (drop at (c .before .before .before .before .before .before .before .before .before .before .before .before .before .before .before .before .before .args .page .now)))
+    let window2-call : _ = c .before .before .before .window2 in
+    let turn : _ = c .before .before .before .before .before .before .before .loop in
+    let window-call : _ = c .before .before .before .before .before .before .before .before .before .window in
+    let reach-of-call : _ = c .before .before .before .before .before .before .before .before .before .before .before .before .before .reach-of in
+    let pre : _ = c .before .before .before .before .before .before .before .before .before .before .before .before .before .before .before .before .before .pre in
+    let args : _ = c .before .before .before .before .before .before .before .before .before .before .before .before .before .before .before .before .before .args in
+    let k : _ = cut (pre .0) (length (args .page .now)) (reach-of-call .ensures) in
+    let b : _ = block-below (turn .blocks) (length (args .window .now) - reach-of-call .result) (omega arith) in
+    let size : ℕ = length (args .window .now) - reach-of-call .result in
+    let at : ℕ = (turn .blocks - 1) * size in
+    omega (arith, b, turn .inv .1, (turn .inv .2 ∙ window-call .given), window2-call .given, k .all, length-take (at + size - at) (drop at (args .page .now)))
 
 loop-less : tie.Need-loop-less Inv-loop μ-loop
 loop-less c = omega arith
 
 loop-again : tie.Need-loop-again Inv-loop μ-loop
 loop-again c =
-    let k : _ = cut (c .before .before .before .before .before .before .before .before .before .before .before .before .before .before .before .before .before .before .before .before .pre .0) (length (c .before .before .before .before .before .before .before .before .before .before .before .before .before .before .before .before .before .before .before .before .args .page .now)) (c .before .before .before .before .before .before .before .before .before .before .before .before .before .before .before .before .reach-of .ensures) in
-    let b : _ = block-below (c .before .before .before .before .before .before .before .before .before .before .loop .blocks) (length (c .before .before .before .before .before .before .before .before .before .before .before .before .before .before .before .before .before .before .before .before .args .window .now) - c .before .before .before .before .before .before .before .before .before .before .before .before .before .before .before .before .reach-of .result) (omega arith) in
-    let page : List ℕ = c .before .before .before .before .before .before .before .before .before .before .before .before .before .before .before .before .before .before .before .before .args .page .now in
-    let size : ℕ = length (c .before .before .before .before .before .before .before .before .before .before .before .before .before .before .before .before .before .before .before .before .args .window .now) - c .before .before .before .before .before .before .before .before .before .before .before .before .before .before .before .before .reach-of .result in
-    let at : ℕ = (c .before .before .before .before .before .before .before .before .before .before .loop .blocks - 1) * size in (
-      standing-further (c .before .before .before .before .before .before .before .before .before .before .before .before .before .before .before .before .before .before .before .before .args .r) (c .before .before .before .before .before .before .before .before .before .before .before .before .before .before .before .before .before .before .before .before .args .window .now) (c .before .before .before .before .before .before .before .before .before .before .before .before .before .before .before .before .before .before .before .before .pre .0) page (λ i. c .before .before .before .before .before .before .before .before .before .before .before .before .before .before .before .before .before .before .before .shared-slice-known .given i .fits) (c .before .before .before .before .before .before .before .before .before .before .loop .window) _ _ _ at _ size _ (k .even) (c .before .before .before .before .before .before .before .before .before .before .before .before .before .before .before .before .reach-of .ensures)
+    let window2-call : _ = c .before .before .before .before .before .before .window2 in
+    let raise-call : _ = c .before .before .before .before .before .before .before .raise in
+    let turn : _ = c .before .before .before .before .before .before .before .before .before .before .loop in
+    let window-call : _ = c .before .before .before .before .before .before .before .before .before .before .before .before .window in
+    let reach-of-call : _ = c .before .before .before .before .before .before .before .before .before .before .before .before .before .before .before .before .reach-of in
+    let pre : _ = c .before .before .before .before .before .before .before .before .before .before .before .before .before .before .before .before .before .before .before .before .pre in
+    let args : _ = c .before .before .before .before .before .before .before .before .before .before .before .before .before .before .before .before .before .before .before .before .args in
+    let known : _ = c .before .before .before .before .before .before .before .before .before .before .before .before .before .before .before .before .before .before .before .shared-slice-known in
+    let k : _ = cut (pre .0) (length (args .page .now)) (reach-of-call .ensures) in
+    let b : _ = block-below (turn .blocks) (length (args .window .now) - reach-of-call .result) (omega arith) in
+    let page : List ℕ = args .page .now in
+    let size : ℕ = length (args .window .now) - reach-of-call .result in
+    let at : ℕ = (turn .blocks - 1) * size in (
+      standing-further (args .r) (args .window .now) (pre .0) page (λ i. known .given i .fits) (turn .window) _ _ _ at _ size _ (k .even) (reach-of-call .ensures)
           (part-next at size page ∙ ap (λ (n : ℕ). take n (drop at page)) (k .even)) (sym b ∙ ap (λ (n : ℕ). at + n) (k .even))
-          (λ i. c .slice-known5 .given i .fits) (c .before .window3 .given ∙ c .before .before .before .before .before .before .window2 .given ∙ (c .before .before .before .before .before .before .before .before .before .before .loop .inv .2 ∙ c .before .before .before .before .before .before .before .before .before .before .before .before .window .given)) (omega (arith, b, k .even, c .before .before .before .before .before .before .before .before .before .before .loop .inv .1)) (c .before .before .before .before .before .before .before .before .before .before .loop .inv .0) (c .before .before .before .before .before .before .before .raise .ensures) (c .before .before .down2 .ensures),
-      omega (arith, b, c .before .before .before .before .before .before .before .before .before .before .loop .inv .1),
-      c .before .window3 .given ∙ c .before .before .before .before .before .before .window2 .given ∙ c .before .before .before .before .before .before .before .before .before .before .loop .inv .2,
+          (λ i. c .slice-known5 .given i .fits) (c .before .window3 .given ∙ window2-call .given ∙ (turn .inv .2 ∙ window-call .given)) (omega
+          (arith, b, k .even, turn .inv .1)) (turn .inv .0) (raise-call .ensures) (c .before .before .down2 .ensures),
+      omega (arith, b, turn .inv .1),
+      c .before .window3 .given ∙ window2-call .given ∙ turn .inv .2,
       λ i. c .slice-known5 .given i .fits,
     )
 
 land-requires : tie.Need-land-requires Inv-loop μ-loop
 land-requires c κs =
-    let k : _ = cut (c .before .before .before .before .before .before .before .before .before .before .before .before .before .pre .0) (length (c .before .before .before .before .before .before .before .before .before .before .before .before .before .args .page .now)) (c .before .before .before .before .before .before .before .before .before .reach-of .ensures) in
-    (omega (arith, k .all, (c .before .before .before .loop .inv .2 ∙ c .before .before .before .before .before .window .given)), c .before .before .before .before .before .before .before .before .before .before .before .before .before .pre .1)
+    let turn : _ = c .before .before .before .loop in
+    let window-call : _ = c .before .before .before .before .before .window in
+    let reach-of-call : _ = c .before .before .before .before .before .before .before .before .before .reach-of in
+    let pre : _ = c .before .before .before .before .before .before .before .before .before .before .before .before .before .pre in
+    let args : _ = c .before .before .before .before .before .before .before .before .before .before .before .before .before .args in
+    let k : _ = cut (pre .0) (length (args .page .now)) (reach-of-call .ensures) in
+    (omega (arith, k .all, (turn .inv .2 ∙ window-call .given)), pre .1)
 
 same-length : tie.Need-same-length Inv-loop μ-loop
-same-length c = (c .before .before .before .before .before .before .loop .inv .2 ∙ c .before .before .before .before .before .before .before .before .window .given)
+same-length c =
+    let turn : _ = c .before .before .before .before .before .before .loop in
+    let window-call : _ = c .before .before .before .before .before .before .before .before .window in
+    (turn .inv .2 ∙ window-call .given)
 
 same-length-2 : tie.Need-same-length-2 Inv-loop μ-loop
 same-length-2 c = c .before .left .given
 
 returns : tie.Need-returns Inv-loop μ-loop
 returns c =
-    let none : c .before .before .before .before .before .before .loop .blocks ≡ 0 = omega arith in
-    standing-landed (c .before .before .before .before .before .before .before .before .before .before .before .before .before .before .before .before .args .r) (c .before .before .before .before .before .before .before .before .before .before .before .before .before .before .before .before .args .page .now) (c .before .before .before .before .before .before .loop .window) _ (ap (λ (n : ℕ). n * (length (c .before .before .before .before .before .before .before .before .before .before .before .before .before .before .before .before .args .window .now) - c .before .before .before .before .before .before .before .before .before .before .before .before .reach-of .result)) none ∙ zero-mul _) (c .before .before .before .before .before .before .loop .inv .3) (c .before .left .given ∙ c .before .before .before .before .before .before .before .before .before .before .before .before .before .before .before .before .pre .1 .all) (c .before .before .before .before .before .before .loop .inv .0) (c .before .before .land .ensures)
+    let turn : _ = c .before .before .before .before .before .before .loop in
+    let reach-of-call : _ = c .before .before .before .before .before .before .before .before .before .before .before .before .reach-of in
+    let pre : _ = c .before .before .before .before .before .before .before .before .before .before .before .before .before .before .before .before .pre in
+    let args : _ = c .before .before .before .before .before .before .before .before .before .before .before .before .before .before .before .before .args in
+    let none : turn .blocks ≡ 0 = omega arith in
+    standing-landed (args .r) (args .page .now) (turn .window) _ (ap (λ (n : ℕ). n * (length (args .window .now) - reach-of-call .result)) none ∙ zero-mul _)
+    (turn .inv .3) (c .before .left .given ∙ pre .1 .all) (turn .inv .0) (c .before .before .land .ensures)
 
 pub fold-spec : {M : Type 1} → statement M
 fold-spec =

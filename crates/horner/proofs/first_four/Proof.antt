@@ -41,10 +41,11 @@ loop-less c = omega arith
 
 loop-again : tie.Need-loop-again Inv-loop μ-loop
 loop-again c =
+    let args : _ = c .before .before .before .before .before .args in
     let top : c .before .before .loop .at ≡ c .before .before .loop .at - 24 + 24 = omega arith in (
       omega arith,
       omega arith,
-      c .four-block .ensures (subst (λ (n : ℕ). FourTo (c .before .before .before .before .before .args .object .now) n 24 (c .before .before .loop .s)) top (c .before .before .loop .inv .2)),
+      c .four-block .ensures (subst (λ (n : ℕ). FourTo (args .object .now) n 24 (c .before .before .loop .s)) top (c .before .before .loop .inv .2)),
     )
 
 reduced-requires : tie.Need-reduced-requires Inv-loop μ-loop
@@ -61,10 +62,14 @@ reduced-requires-4 c κs = tt
 
 returns : tie.Need-returns Inv-loop μ-loop
 returns c =
-    let at : _ = c .before .before .before .before .before .loop in
+    let reduced-call : _ = c .before .before .before .reduced in
+    let turn : _ = c .before .before .before .before .before .loop in
+    let args : _ = c .before .before .before .before .before .before .before .before .args in
+    let at : _ = turn in
     let none : at .at ≡ 0 = omega arith in
-    let object : _ = c .before .before .before .before .before .before .before .before .args .object .now in
-    made (sum-all object 1 none (c .before .before .before .reduced .ensures) (at .inv .2 .one)) (sum-all object 2 none (c .before .before .reduced2 .ensures) (at .inv .2 .two)) (sum-all object 3 none (c .before .reduced3 .ensures) (at .inv .2 .three)) (sum-all object 4 none (c .reduced4 .ensures) (at .inv .2 .four))
+    let object : _ = args .object .now in
+    made (sum-all object 1 none (reduced-call .ensures) (at .inv .2 .one)) (sum-all object 2 none (c .before .before .reduced2 .ensures) (at .inv .2 .two))
+    (sum-all object 3 none (c .before .reduced3 .ensures) (at .inv .2 .three)) (sum-all object 4 none (c .reduced4 .ensures) (at .inv .2 .four))
 
 pub first-four-spec : {M : Type 1} → statement M
 first-four-spec =

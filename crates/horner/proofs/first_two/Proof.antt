@@ -27,10 +27,16 @@ two-down-requires c κs = (omega arith, omega arith, omega arith)
 
 loop-holds : tie.Need-loop-holds Inv-loop μ-loop
 loop-holds c =
-    let object : _ = c .before .before .before .args .object .now in (
+    let args : _ = c .before .before .before .args in
+    let object : _ = args .object .now in (
       omega arith,
       omega arith,
-      c .two-down .ensures (record { one = sum-last object (λ i. c .before .before .shared-slice-known .given i .fits) 1 _ (c .before .odd-byte .ensures); two = sum-last object (λ i. c .before .before .shared-slice-known .given i .fits) 2 _ (c .before .odd-byte .ensures) }),
+      c .two-down .ensures
+          (record {
+            one = sum-last object (λ i. c .before .before .shared-slice-known .given i .fits) 1 _ (c .before .odd-byte .ensures);
+            two = sum-last object
+                (λ i. c .before .before .shared-slice-known .given i .fits) 2 _ (c .before .odd-byte .ensures);
+          }),
     )
 
 sub-at : tie.Need-sub-at Inv-loop μ-loop
@@ -44,10 +50,11 @@ loop-less c = omega arith
 
 loop-again : tie.Need-loop-again Inv-loop μ-loop
 loop-again c =
+    let args : _ = c .before .before .before .before .before .before .args in
     let top : c .before .before .loop .at ≡ c .before .before .loop .at - 24 + 24 = omega arith in (
       omega arith,
       omega arith,
-      c .two-block .ensures (subst (λ (n : ℕ). TwoTo (c .before .before .before .before .before .before .args .object .now) n (c .before .before .loop .s)) top (c .before .before .loop .inv .2)),
+      c .two-block .ensures (subst (λ (n : ℕ). TwoTo (args .object .now) n (c .before .before .loop .s)) top (c .before .before .loop .inv .2)),
     )
 
 reduced-requires : tie.Need-reduced-requires Inv-loop μ-loop
@@ -58,10 +65,13 @@ reduced-requires-2 c κs = tt
 
 returns : tie.Need-returns Inv-loop μ-loop
 returns c =
-    let at : _ = c .before .before .before .loop in
+    let turn : _ = c .before .before .before .loop in
+    let args : _ = c .before .before .before .before .before .before .before .args in
+    let at : _ = turn in
     let none : at .at ≡ 0 = omega arith in
-    let object : _ = c .before .before .before .before .before .before .before .args .object .now in
-    ap₂ (λ (x y : ℕ). record { s1 = x; s2 = y }) (sum-all object 1 none (c .before .reduced .ensures) (at .inv .2 .one)) (sum-all object 2 none (c .reduced2 .ensures) (at .inv .2 .two))
+    let object : _ = args .object .now in
+    ap₂ (λ (x y : ℕ). record { s1 = x; s2 = y }) (sum-all object 1 none (c .before .reduced .ensures) (at .inv .2 .one)) (sum-all object 2 none (c .reduced2 .ensures)
+    (at .inv .2 .two))
 
 pub first-two-spec : {M : Type 1} → statement M
 first-two-spec =

@@ -26,11 +26,14 @@ four-half-requires-2 c κs = search needs
 
 returns : tie.Need-returns
 returns c =
-    let object : _ = c .before .before .before .before .before .args .object .now in
-    let top : c .before .before .before .before .before .args .at + 24 ≡ c .before .before .before .before .before .args .at + 12 + 12 = omega arith in
+    let whole-call : _ = c .before .before .before .whole in
+    let args : _ = c .before .before .before .before .before .args in
+    let object : _ = args .object .now in
+    let top : args .at + 24 ≡ args .at + 12 + 12 = omega arith in
     λ from.
-    let first : FourTo object (c .before .before .before .before .before .args .at + 12) 12 _ = c .before .before .four-half .ensures 0 (omega arith) (subst (λ (n : ℕ). FourFrom object n 0 (c .before .before .before .whole .result)) top (c .before .before .before .whole .ensures object (c .before .before .before .before .before .args .at + 24) 24 from)) in
-    c .four-half2 .ensures 12 (omega arith) (c .before .halved .ensures object (c .before .before .before .before .before .args .at + 12) 12 first)
+    let first : FourTo object (args .at + 12) 12 _ = c .before .before .four-half .ensures 0 (omega arith) (subst
+    (λ (n : ℕ). FourFrom object n 0 (whole-call .result)) top (whole-call .ensures object (args .at + 24) 24 from)) in
+    c .four-half2 .ensures 12 (omega arith) (c .before .halved .ensures object (args .at + 12) 12 first)
 
 pub four-block-spec : {M : Type 1} → statement M
 four-block-spec =

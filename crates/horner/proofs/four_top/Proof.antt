@@ -33,9 +33,17 @@ four-down-requires c κs = (omega arith, omega arith, omega arith)
 
 returns : tie.Need-returns
 returns c =
-    let object : _ = c .before .before .before .before .args .object .now in
-    let to : FourTo object (c .before .before .before .before .args .at) 12 _ = c .four-down .ensures 0 (omega arith) (starting object (λ i. c .before .before .before .shared-slice-known .given i .fits) (c .before .before .odd-byte .ensures)) in
-    record { one = sum-more object 1 (c .before .before .before .before .args .at) 12 24 _ (omega arith) (to .one); two = sum-more object 2 (c .before .before .before .before .args .at) 12 24 _ (omega arith) (to .two); three = to .three; four = to .four }
+    let args : _ = c .before .before .before .before .args in
+    let known : _ = c .before .before .before .shared-slice-known in
+    let object : _ = args .object .now in
+    let to : FourTo object (args .at) 12 _ = c .four-down .ensures 0 (omega arith) (starting object (λ i. known .given i .fits) (c .before .before .odd-byte .ensures)) in
+    record {
+      one = sum-more object 1 (args .at) 12 24 _ (omega arith) (to .one);
+      two = sum-more object 2 (args .at) 12 24 _ (omega arith)
+          (to .two);
+      three = to .three;
+      four = to .four;
+    }
 
 add-four-down : tie.Need-add-four-down
 add-four-down c = search needs
@@ -54,9 +62,13 @@ four-down-requires-3 c κs = (omega arith, omega arith, omega arith)
 
 returns-2 : tie.Need-returns-2
 returns-2 c =
-    let object : _ = c .before .before .before .before .before .before .args .object .now in
-    let first : FourTo object (c .before .before .before .before .before .before .args .at + 12) 12 _ = c .before .before .four-down2 .ensures 0 (omega arith) (starting object (λ i. c .before .before .before .before .before .shared-slice-known .given i .fits) (c .before .before .before .before .odd-byte .ensures)) in
-    c .four-down3 .ensures 12 (omega arith) (c .before .halved .ensures object (c .before .before .before .before .before .before .args .at + 12) 12 first)
+    let odd-byte-call : _ = c .before .before .before .before .odd-byte in
+    let args : _ = c .before .before .before .before .before .before .args in
+    let known : _ = c .before .before .before .before .before .shared-slice-known in
+    let object : _ = args .object .now in
+    let first : FourTo object (args .at + 12) 12 _ = c .before .before .four-down2 .ensures 0 (omega arith) (starting object (λ i. known .given i .fits)
+    (odd-byte-call .ensures)) in
+    c .four-down3 .ensures 12 (omega arith) (c .before .halved .ensures object (args .at + 12) 12 first)
 
 pub four-top-spec : {M : Type 1} → statement M
 four-top-spec =

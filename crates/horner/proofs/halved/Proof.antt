@@ -19,7 +19,14 @@ cast-t5 : tie.Need-cast-t5
 cast-t5 c = search needs
 
 returns : tie.Need-returns
-returns c = λ object i d to. record { one = to .one; two = to .two; three = sum-start object 3 i 12 (c .before .before .args .s .s3) _ (to .three) (c .before .reduced .ensures) (omega arith); four = sum-start object 4 i 12 (c .before .before .args .s .s4) _ (to .four) (c .reduced2 .ensures) (omega arith) }
+returns c =
+    λ object i d to. record {
+      one = to .one;
+      two = to .two;
+      three = sum-start object 3 i 12 (c .before .before .args .s .s3) _ (to .three) (c .before .reduced .ensures)
+          (omega arith);
+      four = sum-start object 4 i 12 (c .before .before .args .s .s4) _ (to .four) (c .reduced2 .ensures) (omega arith);
+    }
 
 pub halved-spec : {M : Type 1} → statement M
 halved-spec = tie.close (tie.spec reduced-requires cast-t3 reduced-requires-2 cast-t5 returns)

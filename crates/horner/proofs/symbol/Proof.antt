@@ -44,7 +44,8 @@ mul-result : tie.Need-mul-result
 mul-result c = omega (arith, c .shared-slice-known2 .given (c .before .before .args .i * 2 + 1) .fits)
 
 add-result : tie.Need-add-result
-add-result c = omega (arith, c .shared-slice-known2 .given (c .before .before .args .i * 2 + 1) .fits, c .before .shared-slice-known .given (c .before .before .args .i * 2) .fits)
+add-result c =
+    omega (arith, c .shared-slice-known2 .given (c .before .before .args .i * 2 + 1) .fits, c .before .shared-slice-known .given (c .before .before .args .i * 2) .fits)
 
 returns : tie.Need-returns
 returns c = made (c .before .before .args .object .now) (c .before .before .args .i)

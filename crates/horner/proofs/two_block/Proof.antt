@@ -26,11 +26,18 @@ add-i c = omega (arith, c .before .pre)
 
 loop-holds : tie.Need-loop-holds Inv-loop μ-loop
 loop-holds c =
-    let all : symbols 2 (take ((c .before .args .at + 24) * 2) (c .before .args .object .now)) ≡ c .before .args .at + 24 = omega (arith, c .before .pre, length-take ((c .before .args .at + 24) * 2) (c .before .args .object .now)) in (
+    let all : symbols 2 (take ((c .before .args .at + 24) * 2) (c .before .args .object .now)) ≡ c .before .args .at + 24 = omega (
+      arith,
+      c .before .pre,
+      length-take
+          ((c .before .args .at + 24) * 2) (c .before .args .object .now),
+    ) in (
       omega arith,
       omega arith,
-      sum-here (take ((c .before .args .at + 24) * 2) (c .before .args .object .now)) 1 (c .before .args .at + 24) 0 0 (sum-none (take ((c .before .args .at + 24) * 2) (c .before .args .object .now)) 1 (c .before .args .at + 24) all),
-      sum-here (take ((c .before .args .at + 24) * 2) (c .before .args .object .now)) 2 (c .before .args .at + 24) 0 0 (sum-none (take ((c .before .args .at + 24) * 2) (c .before .args .object .now)) 2 (c .before .args .at + 24) all),
+      sum-here (take ((c .before .args .at + 24) * 2) (c .before .args .object .now)) 1 (c .before .args .at + 24) 0 0 (sum-none
+          (take ((c .before .args .at + 24) * 2) (c .before .args .object .now)) 1 (c .before .args .at + 24) all),
+      sum-here (take ((c .before .args .at + 24) * 2) (c .before .args .object .now)) 2 (c .before .args .at + 24) 0 0 (sum-none
+          (take ((c .before .args .at + 24) * 2) (c .before .args .object .now)) 2 (c .before .args .at + 24) all),
     )
 
 sub-i : tie.Need-sub-i Inv-loop μ-loop
@@ -45,15 +52,20 @@ loop-less c = omega arith
 loop-again : tie.Need-loop-again Inv-loop μ-loop
 unfolding _⊕_
 loop-again c =
-    let all : symbols 2 (take ((c .before .before .before .before .args .at + 24) * 2) (c .before .before .before .before .args .object .now)) ≡ c .before .before .before .before .args .at + 24 = omega (arith, c .before .before .before .before .pre, length-take ((c .before .before .before .before .args .at + 24) * 2) (c .before .before .before .before .args .object .now)) in
+    let pre : _ = c .before .before .before .before .pre in
+    let args : _ = c .before .before .before .before .args in
+    let known : _ = c .before .before .before .shared-slice-known in
+    let all : symbols 2 (take ((args .at + 24) * 2) (args .object .now)) ≡ args .at + 24 = omega (arith, pre, length-take ((args .at + 24) * 2) (args .object .now)) in
     let at : _ = c .before .before .loop in
-    let object : List ℕ = c .before .before .before .before .args .object .now in
-    let octets : Octets object = λ i. c .before .before .before .shared-slice-known .given i .fits in
-    let here : _ = c .symbol .ensures ∙ head-symbol object octets (c .before .before .before .before .args .at + 24) (at .i - 1) (omega arith) in (
+    let object : List ℕ = args .object .now in
+    let octets : Octets object = λ i. known .given i .fits in
+    let here : _ = c .symbol .ensures ∙ head-symbol object octets (args .at + 24) (at .i - 1) (omega arith) in (
       omega arith,
       omega arith,
-      sum-next (take ((c .before .before .before .before .args .at + 24) * 2) (c .before .before .before .before .args .object .now)) (take-octets ((c .before .before .before .before .args .at + 24) * 2) object octets) 1 0 (c .before .before .before .before .args .at + 24) (at .i) (at .s1) _ (omega arith) (omega arith) (omega arith) (at .inv .0) (omega arith) (omega (arith, all)) here (at .inv .2),
-      sum-next (take ((c .before .before .before .before .args .at + 24) * 2) (c .before .before .before .before .args .object .now)) (take-octets ((c .before .before .before .before .args .at + 24) * 2) object octets) 2 0 (c .before .before .before .before .args .at + 24) (at .i) (at .s2) _ (omega arith) (omega arith) (omega arith) (at .inv .0) (omega arith) (omega (arith, all)) here (at .inv .3),
+      sum-next (take ((args .at + 24) * 2) (args .object .now)) (take-octets ((args .at + 24) * 2) object octets) 1 0 (args .at + 24) (at .i) (at .s1) _ (omega arith)
+          (omega arith) (omega arith) (at .inv .0) (omega arith) (omega (arith, all)) here (at .inv .2),
+      sum-next (take ((args .at + 24) * 2) (args .object .now)) (take-octets ((args .at + 24) * 2) object octets) 2 0 (args .at + 24) (at .i) (at .s2) _ (omega arith)
+          (omega arith) (omega arith) (at .inv .0) (omega arith) (omega (arith, all)) here (at .inv .3),
     )
 
 reduced-requires : tie.Need-reduced-requires Inv-loop μ-loop
@@ -71,16 +83,26 @@ cast-t15 c = omega arith
 returns : tie.Need-returns Inv-loop μ-loop
 unfolding _⊕_
 returns c =
-    let at : _ = c .before .before .before .loop in
-    let object : List ℕ = c .before .before .before .before .before .args .object .now in
-    let octets : Octets object = λ i. c .before .before .before .before .shared-slice-known .given i .fits in
-    let end : at .i ≡ c .before .before .before .before .before .args .at = omega arith in
-    let b1 : Sum (take ((c .before .before .before .before .before .args .at + 24) * 2) (c .before .before .before .before .before .args .object .now)) 1 (c .before .before .before .before .before .args .at) 24 (at .s1) = sum-more (take ((c .before .before .before .before .before .args .at + 24) * 2) (c .before .before .before .before .before .args .object .now)) 1 (c .before .before .before .before .before .args .at) (0 + ((c .before .before .before .before .before .args .at + 24) - c .before .before .before .before .before .args .at)) 24 (at .s1) (omega arith) (subst (λ (n : ℕ). Sum (take ((c .before .before .before .before .before .args .at + 24) * 2) (c .before .before .before .before .before .args .object .now)) 1 n (0 + ((c .before .before .before .before .before .args .at + 24) - n)) (at .s1)) end (at .inv .2)) in
-    let b2 : Sum (take ((c .before .before .before .before .before .args .at + 24) * 2) (c .before .before .before .before .before .args .object .now)) 2 (c .before .before .before .before .before .args .at) 24 (at .s2) = sum-more (take ((c .before .before .before .before .before .args .at + 24) * 2) (c .before .before .before .before .before .args .object .now)) 2 (c .before .before .before .before .before .args .at) (0 + ((c .before .before .before .before .before .args .at + 24) - c .before .before .before .before .before .args .at)) 24 (at .s2) (omega arith) (subst (λ (n : ℕ). Sum (take ((c .before .before .before .before .before .args .at + 24) * 2) (c .before .before .before .before .before .args .object .now)) 2 n (0 + ((c .before .before .before .before .before .args .at + 24) - n)) (at .s2)) end (at .inv .3)) in
+    let turn : _ = c .before .before .before .loop in
+    let pre : _ = c .before .before .before .before .before .pre in
+    let args : _ = c .before .before .before .before .before .args in
+    let known : _ = c .before .before .before .before .shared-slice-known in
+    let at : _ = turn in
+    let object : List ℕ = args .object .now in
+    let octets : Octets object = λ i. known .given i .fits in
+    let end : at .i ≡ args .at = omega arith in
+    let b1 : Sum (take ((args .at + 24) * 2) (args .object .now)) 1 (args .at) 24 (at .s1) = sum-more (take ((args .at + 24) * 2) (args .object .now)) 1 (args .at) (0 +
+    ((args .at + 24) - args .at)) 24 (at .s1) (omega arith) (subst
+    (λ (n : ℕ). Sum (take ((args .at + 24) * 2) (args .object .now)) 1 n (0 + ((args .at + 24) - n)) (at .s1)) end (at .inv .2)) in
+    let b2 : Sum (take ((args .at + 24) * 2) (args .object .now)) 2 (args .at) 24 (at .s2) = sum-more (take ((args .at + 24) * 2) (args .object .now)) 2 (args .at) (0 +
+    ((args .at + 24) - args .at)) 24 (at .s2) (omega arith) (subst
+    (λ (n : ℕ). Sum (take ((args .at + 24) * 2) (args .object .now)) 2 n (0 + ((args .at + 24) - n)) (at .s2)) end (at .inv .3)) in
     λ to.
     record {
-      one = sum-joined object octets 1 (c .before .before .before .before .before .args .at) 24 0 _ (at .s1) (c .before .before .before .before .before .pre) (omega arith) (sum-start object 1 (c .before .before .before .before .before .args .at + 24) 24 (c .before .before .before .before .before .args .s .s1) _ (to .one) (c .before .reduced .ensures) (omega arith)) b1;
-      two = sum-joined object octets 2 (c .before .before .before .before .before .args .at) 24 0 _ (at .s2) (c .before .before .before .before .before .pre) (omega arith) (sum-start object 2 (c .before .before .before .before .before .args .at + 24) 24 (c .before .before .before .before .before .args .s .s2) _ (to .two) (c .reduced2 .ensures) (omega arith)) b2;
+      one = sum-joined object octets 1 (args .at) 24 0 _ (at .s1) (pre) (omega arith) (sum-start object 1 (args .at + 24) 24 (args .s .s1) _ (to .one)
+          (c .before .reduced .ensures) (omega arith)) b1;
+      two = sum-joined object octets 2 (args .at) 24 0 _ (at .s2) (pre) (omega arith) (sum-start object 2 (args .at + 24) 24 (args .s .s2) _ (to .two)
+          (c .reduced2 .ensures) (omega arith)) b2;
     }
 
 pub two-block-spec : {M : Type 1} → statement M

@@ -22,7 +22,11 @@ loop-holds : tie.Need-loop-holds Inv-loop μ-loop
 loop-holds c = (
   omega arith,
   c .before .pre .0,
-  λ from. (sum-here (c .before .args .object .now) 1 (c .before .args .top) 0 _ (from .one), sum-here (c .before .args .object .now) 2 (c .before .args .top) 0 _ (from .two)),
+  λ from. (
+    sum-here (c .before .args .object .now) 1 (c .before .args .top) 0 _ (from .one),
+    sum-here (c .before .args .object .now) 2 (c .before .args .top) 0 _
+        (from .two),
+  ),
 )
 
 sub-i : tie.Need-sub-i Inv-loop μ-loop
@@ -37,25 +41,34 @@ loop-less c = omega arith
 loop-again : tie.Need-loop-again Inv-loop μ-loop
 unfolding _⊕_
 loop-again c =
+    let pre : _ = c .before .before .before .before .pre in
+    let args : _ = c .before .before .before .before .args in
+    let known : _ = c .before .before .before .shared-slice-known in
     let at : _ = c .before .before .loop in
-    let object : _ = c .before .before .before .before .args .object .now in (
+    let object : _ = args .object .now in (
       omega arith,
       omega arith,
       λ from. (
-        sum-next object (λ i. c .before .before .before .shared-slice-known .given i .fits) 1 0 (c .before .before .before .before .args .top) (at .i) (at .s1) _ (omega arith) (omega arith) (omega arith) (at .inv .0) (omega (arith, c .before .before .before .before .pre .1)) (omega (arith, c .before .before .before .before .pre .2)) (c .symbol .ensures) (at .inv .2 from .0),
-        sum-next object (λ i. c .before .before .before .shared-slice-known .given i .fits) 2 0 (c .before .before .before .before .args .top) (at .i) (at .s2) _ (omega arith) (omega arith) (omega arith) (at .inv .0) (omega (arith, c .before .before .before .before .pre .1)) (omega (arith, c .before .before .before .before .pre .2)) (c .symbol .ensures) (at .inv .2 from .1),
+        sum-next object (λ i. known .given i .fits) 1 0 (args .top) (at .i) (at .s1) _ (omega arith) (omega arith) (omega arith) (at .inv .0) (omega (arith, pre .1))
+            (omega (arith, pre .2)) (c .symbol .ensures) (at .inv .2 from .0),
+        sum-next object (λ i. known .given i .fits) 2 0 (args .top) (at .i) (at .s2) _ (omega arith) (omega arith) (omega arith) (at .inv .0) (omega (arith, pre .1))
+            (omega (arith, pre .2)) (c .symbol .ensures) (at .inv .2 from .1),
       ),
     )
 
 returns : tie.Need-returns Inv-loop μ-loop
 returns c =
+    let pre : _ = c .before .before .before .pre in
+    let args : _ = c .before .before .before .args in
     let at : _ = c .before .loop in
-    let object : _ = c .before .before .before .args .object .now in
-    let end : at .i ≡ c .before .before .before .args .bottom = omega arith in
+    let object : _ = args .object .now in
+    let end : at .i ≡ args .bottom = omega arith in
     λ from.
     record {
-      one = sum-more object 1 (c .before .before .before .args .bottom) (0 + (c .before .before .before .args .top - (c .before .before .before .args .bottom))) (24) (at .s1) (omega (arith, c .before .before .before .pre .1)) (subst (λ (n : ℕ). Sum object 1 n (0 + (c .before .before .before .args .top - n)) (at .s1)) end (at .inv .2 from .0));
-      two = sum-more object 2 (c .before .before .before .args .bottom) (0 + (c .before .before .before .args .top - (c .before .before .before .args .bottom))) (24) (at .s2) (omega (arith, c .before .before .before .pre .1)) (subst (λ (n : ℕ). Sum object 2 n (0 + (c .before .before .before .args .top - n)) (at .s2)) end (at .inv .2 from .1));
+      one = sum-more object 1 (args .bottom) (0 + (args .top - (args .bottom))) (24) (at .s1) (omega (arith, pre .1)) (subst
+          (λ (n : ℕ). Sum object 1 n (0 + (args .top - n)) (at .s1)) end (at .inv .2 from .0));
+      two = sum-more object 2 (args .bottom) (0 + (args .top - (args .bottom))) (24) (at .s2) (omega (arith, pre .1)) (subst
+          (λ (n : ℕ). Sum object 2 n (0 + (args .top - n)) (at .s2)) end (at .inv .2 from .1));
     }
 
 pub two-down-spec : {M : Type 1} → statement M

@@ -31,7 +31,17 @@ cast-t9 : tie.Need-cast-t9
 cast-t9 c = search needs
 
 returns : tie.Need-returns
-returns c = λ object i d to. record { one = sum-start object 1 i d (c .before .before .before .before .args .s .s1) _ (to .one) (c .before .before .before .reduced .ensures) (omega arith); two = sum-start object 2 i d (c .before .before .before .before .args .s .s2) _ (to .two) (c .before .before .reduced2 .ensures) (omega arith); three = sum-start object 3 i 12 (c .before .before .before .before .args .s .s3) _ (to .three) (c .before .reduced3 .ensures) (omega arith); four = sum-start object 4 i 12 (c .before .before .before .before .args .s .s4) _ (to .four) (c .reduced4 .ensures) (omega arith) }
+returns c =
+    let reduced-call : _ = c .before .before .before .reduced in
+    let args : _ = c .before .before .before .before .args in
+    λ object i d to. record {
+      one = sum-start object 1 i d (args .s .s1) _ (to .one) (reduced-call .ensures) (omega arith);
+      two = sum-start object 2 i d (args .s .s2) _
+          (to .two) (c .before .before .reduced2 .ensures) (omega arith);
+      three = sum-start object 3 i 12 (args .s .s3) _ (to .three) (c .before .reduced3 .ensures)
+          (omega arith);
+      four = sum-start object 4 i 12 (args .s .s4) _ (to .four) (c .reduced4 .ensures) (omega arith);
+    }
 
 pub whole-spec : {M : Type 1} → statement M
 whole-spec =
