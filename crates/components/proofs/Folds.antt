@@ -1,11 +1,11 @@
 -- A fold keeps every component for which its relation holds: with v a solution of the fold's rule, the symbols that v stands for and the few that
 -- its lowest ones leave have the same component.
 -- Assumes nothing.
-use mathlib.Core.Path.{_≡_, refl, sym, ap, ap₂, _∙_, subst}
+use mathlib.Core.Path.{_≡_, refl, sym, ap, _∙_, subst}
 use mathlib.Core.Bool.{Bool, true, false}
 use mathlib.Core.Logic.{dite}
 use mathlib.Core.List.{List, [], _∷_}
-use Prim.Native.Nat.{ℕ, zero, suc, _+_, _-_, _*_, _^_, _≤_, _<_}
+use Prim.Native.Nat.{ℕ, _+_, _-_, _*_, _^_, _≤_, _<_}
 use native.Mathlib.Nat.{add-comm, add-zero, sub-zero, le-add-right}
 use native.Mathlib.Decide.{decLt}
 use native.Mathlib.Omega.{arith}

@@ -4,14 +4,13 @@
 use mathlib.Core.Path.{_≡_, refl, sym, ap, ap₂, _∙_, fun-ext}
 use mathlib.Core.Logic.{dite}
 use mathlib.Core.List.{List, [], _∷_}
-use Prim.Native.Nat.{ℕ, zero, suc, _+_, _-_, _*_, _^_, _/_, _≤_, _<_}
+use Prim.Native.Nat.{ℕ, suc, _+_, _-_, _*_, _^_, _≤_, _<_}
 use native.Mathlib.Nat.{add-suc, add-assoc}
 use native.Mathlib.Decide.{decLt}
 use native.Mathlib.Omega.{arith}
 use lib.Dec.{T}
 use lib.ListN.{length, getD, take, drop, length-take, length-drop, List·getD-eq-default}
 use lib.Seq.{getD-take, getD-drop}
-use Rattle.units.specs.Counts.{symbolsIn}
 use Rattle.field.specs.Field.{_⊕_, product, power, α, GF16}
 use Rattle.field.proofs.Sums.{zero-sum, sum-assoc, sum-self, sum-zero}
 use Rattle.field.proofs.Instances.{GF16-formed}

@@ -3,10 +3,10 @@
 -- Assumes nothing.
 use mathlib.Core.Path.{_≡_, refl, sym, ap, ap₂, _∙_, subst}
 use mathlib.Core.Bool.{Bool}
-use Prim.Native.Nat.{ℕ, zero, suc, _+_, _*_, _/_, _%_, _^_, _≤_, _<_}
+use Prim.Native.Nat.{ℕ, zero, suc, _*_, _/_, _%_, _^_, _≤_, _<_}
 use native.Mathlib.Omega.{arith}
 use native.Mathlib.Nat.{mod-eq-of-lt, mod-lt, mul-one, mul-assoc, pow-suc, mul-le-mul-left, lt-of-le-of-lt}
-use lib.Bits.{bitXor, xor-shr, xor-mod}
+use lib.Bits.{xor-shr, xor-mod}
 use lib.Dec.{T, eqb, eqb→eq}
 use lib.Pow.{pow-pos}
 use Rattle.field.specs.Field.{GF16, _⊕_, digit, scaled, reduced, doubled, product, power, α}

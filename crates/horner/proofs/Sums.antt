@@ -1,20 +1,20 @@
 -- Sums that are not reduced yet, by Horner's rule: where they start, one turn, and what they come to.
 -- Assumes nothing.
-use mathlib.Core.Path.{_≡_, refl, sym, ap, ap₂, _∙_, subst}
-use mathlib.Core.Logic.{dite, ⊎-elim}
+use mathlib.Core.Path.{_≡_, sym, ap, ap₂, _∙_, subst}
+use mathlib.Core.Logic.{dite}
 use mathlib.Core.List.{List}
-use Prim.Native.Nat.{ℕ, zero, suc, _+_, _-_, _*_, _/_, _%_, _^_, _≤_, _<_}
-use native.Mathlib.Nat.{mod-eq-of-lt, mul-lt-mul-of-pos-right, lt-of-lt-of-le, mul-suc, mul-add, add-assoc, eq-or-lt-of-le, mul-zero, mul-le-mul-left}
+use Prim.Native.Nat.{ℕ, suc, _+_, _-_, _*_, _/_, _%_, _^_, _≤_, _<_}
+use native.Mathlib.Nat.{mod-eq-of-lt, mul-lt-mul-of-pos-right, lt-of-lt-of-le, mul-suc, mul-add, add-assoc, mul-zero, mul-le-mul-left}
 use native.Mathlib.Decide.{decLt}
 use native.Mathlib.Omega.{arith}
-use lib.ListN.{length, getD, take, length-take}
+use lib.ListN.{length, take, length-take}
 use lib.Seq.{getD-take}
 use lib.Pow.{pow-pos, pow-add, pow-mono}
 use Rattle.field.specs.Field.{GF16, _⊕_, reduced, product, power, α}
 use Rattle.field.proofs.Sums.{sum-lt, sum-zero}
 use Rattle.field.proofs.Reducing.{reduced-below, zero-product}
 use Rattle.field.proofs.Instances.{GF16-formed}
-use Rattle.components.specs.Objects.{Octets, lowFirst, symbol, symbols}
+use Rattle.components.specs.Objects.{Octets, symbol, symbols}
 use Rattle.components.specs.Components.{component, signature}
 use Rattle.components.proofs.Components.{component-same, component-parts, from, from-end, from-start, from-turn}
 use Rattle.components.proofs.Octets.{GF16-symbol}

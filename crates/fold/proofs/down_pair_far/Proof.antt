@@ -1,7 +1,7 @@
 -- `fold::down_pair_far` meets its contract. The invariant: the places of the block from i on are done.
 -- Assumes nothing.
 use mathlib.Core.Path.{_≡_, refl, _∙_}
-use Prim.Native.Nat.{ℕ, _+_, _-_, _≤_}
+use Prim.Native.Nat.{_-_, _≤_}
 use native.Mathlib.Omega.{arith}
 use lib.ListN.{length, length-set}
 use Rattle.components.specs.Relations.{inBytes, pairFar}

@@ -1,11 +1,11 @@
 -- `fold::fold` meets its contract. The invariant: the window stands for the page from the whole blocks on that are still to be taken in.
 -- Assumes nothing.
-use mathlib.Core.Path.{_≡_, refl, sym, ap, _∙_, subst}
+use mathlib.Core.Path.{_≡_, refl, sym, ap, _∙_}
 use mathlib.Core.List.{List}
 use Prim.Native.Nat.{ℕ, _+_, _-_, _*_, _/_, _≤_, _<_}
 use native.Mathlib.Nat.{zero-mul}
 use native.Mathlib.Omega.{arith}
-use lib.ListN.{length, getD, take, drop, length-take, length-drop}
+use lib.ListN.{length, take, drop, length-take}
 use Rattle.components.specs.Objects.{Octets}
 use Rattle.fold.specs.declared.Relation.{Relation}
 use Rattle.fold.specs.Folding.{known, reach, Fits}

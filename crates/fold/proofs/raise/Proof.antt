@@ -1,7 +1,7 @@
 -- `fold::raise` meets its contract. The invariant: i bytes are copied, and what is still to be copied stands below.
 -- Assumes nothing.
 use mathlib.Core.Path.{_≡_, refl, _∙_}
-use Prim.Native.Nat.{ℕ, _+_, _-_, _≤_, _<_}
+use Prim.Native.Nat.{_-_, _≤_}
 use native.Mathlib.Omega.{arith}
 use lib.ListN.{length, getD, length-set}
 use Rattle.fold.proofs.Settings.{Setting, setting-none, setting-turn}

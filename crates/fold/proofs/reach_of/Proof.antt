@@ -1,7 +1,6 @@
 -- `fold::reach_of` meets its contract, relation by relation.
 -- Assumes nothing.
-use mathlib.Core.Path.{_≡_, sym, ap}
-use Prim.Native.Nat.{ℕ}
+use mathlib.Core.Path.{sym, ap}
 use borrow.Author.Needs.{needs}
 use Rattle.fold.specs.Folding.{reach}
 use Rattle.fold.proofs.reach_of.Statement.{statement}

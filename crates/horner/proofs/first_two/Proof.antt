@@ -1,7 +1,7 @@
 -- `horner::first_two` meets its contract. The invariant: the sums stand for the symbols from `at` on, and whole blocks are left below.
 -- Assumes nothing.
 use mathlib.Core.Path.{_≡_, ap₂, subst}
-use Prim.Native.Nat.{ℕ, _+_, _-_, _*_, _/_, _%_, _≤_, _<_}
+use Prim.Native.Nat.{ℕ, _+_, _-_, _*_, _%_, _≤_}
 use native.Mathlib.Omega.{arith}
 use lib.ListN.{length}
 use Rattle.horner.specs.Sums.{TwoTo}

@@ -1,8 +1,7 @@
 -- `horner::four_block` meets its contract: twelve symbols and twelve more.
 -- Assumes nothing.
 use mathlib.Core.Path.{_≡_, subst}
-use mathlib.Core.List.{List}
-use Prim.Native.Nat.{ℕ, suc, _+_, _-_, _*_, _/_, _≤_, _<_}
+use Prim.Native.Nat.{ℕ, _+_}
 use native.Mathlib.Omega.{arith}
 use borrow.Author.Needs.{needs}
 use Rattle.horner.specs.Sums.{FourTo, FourFrom}

@@ -1,12 +1,10 @@
 -- `horner::four_down` meets its contract. The invariant: each sum stands for the symbols from i on, and has taken in no more than it has room for.
 -- Assumes nothing.
 use mathlib.Core.Path.{_≡_, subst}
-use mathlib.Core.List.{List}
-use Prim.Native.Nat.{ℕ, suc, _+_, _-_, _*_, _/_, _≤_, _<_}
+use Prim.Native.Nat.{ℕ, _+_, _-_, _≤_}
 use native.Mathlib.Omega.{arith}
-use borrow.Author.Needs.{needs}
 use Rattle.field.specs.Field.{_⊕_}
-use Rattle.horner.specs.Sums.{Sum, FourFrom, FourTo}
+use Rattle.horner.specs.Sums.{Sum, FourFrom}
 use Rattle.horner.proofs.Sums.{sum-here, sum-more, sum-next}
 use Rattle.horner.proofs.four_down.Statement.{statement}
 use Rattle.horner.proofs.four_down.Tie as tie

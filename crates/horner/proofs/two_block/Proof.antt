@@ -2,14 +2,13 @@
 -- Assumes nothing.
 use mathlib.Core.Path.{_≡_, _∙_, subst}
 use mathlib.Core.List.{List}
-use Prim.Native.Nat.{ℕ, suc, _+_, _-_, _*_, _≤_, _<_}
+use Prim.Native.Nat.{ℕ, _+_, _-_, _*_, _≤_}
 use native.Mathlib.Omega.{arith}
 use lib.ListN.{take, length-take}
-use borrow.Author.Needs.{needs}
 use Rattle.field.specs.Field.{_⊕_}
 use Rattle.components.specs.Objects.{Octets, symbols}
 use Rattle.components.proofs.Octets.{take-octets}
-use Rattle.horner.specs.Sums.{Sum, TwoTo}
+use Rattle.horner.specs.Sums.{Sum}
 use Rattle.horner.proofs.Sums.{sum-none, sum-here, sum-more, sum-next, sum-joined, head-symbol, sum-start}
 use Rattle.horner.proofs.two_block.Statement.{statement}
 use Rattle.horner.proofs.two_block.Tie as tie

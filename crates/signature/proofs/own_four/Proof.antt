@@ -1,6 +1,5 @@
 -- `signature::own_four` meets its contract: of four components the first three are asked for.
 -- Assumes nothing.
-use mathlib.Core.Path.{_≡_, ap}
 use Prim.Native.Nat.{_≤_}
 use native.Mathlib.Omega.{arith}
 use borrow.Author.Needs.{needs}
