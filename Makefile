@@ -36,7 +36,7 @@ archive: kit $(ARCHIVE)
 
 $(ARCHIVE): crates.txt $(shell find crates -name '*.rt' -o -name '*.antt')
 	@mkdir -p target
-	@echo "Proving and building $@ (three to four minutes from nothing) .."
+	@echo "Proving and building $@ (four minutes from nothing) .."
 	@{ rt check $$(sed -n 's/^cotelark: *//p' crates.txt) && rt staticlib cotelark; } > target/archive.log 2>&1 || { cat target/archive.log; exit 1; }
 
 # The kit that the proofs were last seen to pass with is named in kit.txt; another one may do as well.
