@@ -12,7 +12,7 @@ use native.Mathlib.Omega.{arith}
 use lib.Dec.{T, leb, leb→le}
 use lib.Pow.{pow-pos}
 use Rattle.field.specs.Field.{Field, Element, _⊕_, product, power, α}
-use Rattle.field.proofs.Sums.{zero-sum, sum-zero, sum-self, sum-cross, sum-undo, sum-lt}
+use Rattle.field.proofs.Sums.{zero-sum, sum-zero, sum-assoc, sum-self, sum-cross, sum-undo, sum-lt}
 use Rattle.field.proofs.Additive.{Additive, at-zero}
 use Rattle.field.proofs.Reducing.{product-sum, zero-product}
 use Rattle.field.proofs.Products.{Formed}
@@ -67,6 +67,15 @@ pub summed-nothing : (os : List ℕ) → summed 0 os (λ o. 0) ≡ 0
 unfolding summed
 summed-nothing [] = refl
 summed-nothing (o ∷ os) = ap (λ (x : ℕ). summed x os (λ o. 0)) (zero-sum 0) ∙ summed-nothing os
+
+-- x by itself
+pub summed-apart : (os : List ℕ) (x : ℕ) (h : ℕ → ℕ) → summed x os h ≡ x ⊕ summed 0 os h
+unfolding summed
+summed-apart [] x h = sym (sum-zero x)
+summed-apart (o ∷ os) x h =
+    summed-apart os (x ⊕ h o) h
+    ∙ sum-assoc x (h o) (summed 0 os h)
+    ∙ ap (λ (y : ℕ). x ⊕ y) (sym (summed-apart os (h o) h) ∙ ap (λ (y : ℕ). summed y os h) (sym (zero-sum (h o))))
 
 pub summed-lt : (w : ℕ) (os : List ℕ) {x : ℕ} (f : ℕ → ℕ) → x < 2 ^ w → ((o : ℕ) → f o < 2 ^ w) → summed x os f < 2 ^ w
 unfolding summed

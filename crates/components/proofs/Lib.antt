@@ -6,3 +6,5 @@ pub mod Folds
 pub mod Pairs
 pub mod Windows
 pub mod Relations
+pub mod Words
+pub mod Division

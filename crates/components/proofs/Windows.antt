@@ -20,18 +20,10 @@ use Rattle.components.specs.Relations.{Relation, summed, gathered, inByt
 use Rattle.components.specs.Windows.{Down, Raised, Landed}
 use Rattle.components.proofs.Components.{component-same, component-parts}
 use Rattle.components.proofs.Octets.{GF16-symbol, take-octets}
-use Rattle.components.proofs.Folds.{inside, summed-nothing, summed-lt, component-more, folded}
+use Rattle.components.proofs.Folds.{inside, summed-apart, summed-nothing, summed-lt, component-more, folded}
 use Rattle.components.proofs.Pairs.{gathered-symbol, symbol-same}
 
 -- ---- the rule, solved and undone
-
-summed-apart : (os : List ℕ) (x : ℕ) (h : ℕ → ℕ) → summed x os h ≡ x ⊕ summed 0 os h
-unfolding summed
-summed-apart [] x h = sym (sum-zero x)
-summed-apart (o ∷ os) x h =
-    summed-apart os (x ⊕ h o) h
-    ∙ sum-assoc x (h o) (summed 0 os h)
-    ∙ ap (λ (y : ℕ). x ⊕ y) (sym (summed-apart os (h o) h) ∙ ap (λ (y : ℕ). summed y os h) (sym (zero-sum (h o))))
 
 summed-undone : (os : List ℕ) (x : ℕ) (h : ℕ → ℕ) → summed (summed x os h) os h ≡ x
 summed-undone os x h =
