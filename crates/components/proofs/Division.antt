@@ -21,7 +21,7 @@ use Rattle.components.proofs.Octets.{low-first-lt, drop-octets}
 use Rattle.components.proofs.Folds.{component-more}
 use Rattle.components.proofs.Pairs.{symbol-same}
 use Rattle.components.proofs.Windows.{symbol-past, signature-parts}
-use Rattle.components.proofs.Words.{_⊞_, lifted, words-sum, word-at, word-between, replaced}
+use Rattle.components.proofs.Words.{_⊞_, lifted, words-sum, lifted-words, word-at, word-between, replaced}
 
 -- a row and what is added to it
 plus : (j : ℕ) (row part : List ℕ) {x y : ℕ} → ofWords j row ≡ x → ofWords j part ≡ y → ofWords j (row ⊞ part) ≡ x ⊕ y
@@ -76,6 +76,16 @@ divided-third j w a b c d e f g h i t fits holds =
   where
     row : List ℕ
     row = w ∷ a ∷ b ∷ c ∷ d ∷ e ∷ f ∷ g ∷ h ∷ i ∷ []
+
+-- ---- four words below others
+
+four-below : (a b c d : ℕ) (words : List ℕ) → (a ∷ b ∷ c ∷ d ∷ []) ⊞ lifted 4 words ≡ a ∷ b ∷ c ∷ d ∷ words
+unfolding _⊞_ lifted
+four-below a b c d words = simp sum-zero
+
+pub rows-joined : (j a b c d : ℕ) (words : List ℕ)
+    → ofWords j (a ∷ b ∷ c ∷ d ∷ words) ≡ ofWords j (a ∷ b ∷ c ∷ d ∷ []) ⊕ product GF16 (ofWords j words) (power GF16 α (j * 16))
+rows-joined j a b c d words = ap (ofWords j) (sym (four-below a b c d words)) ∙ plus j (a ∷ b ∷ c ∷ d ∷ []) _ refl (lifted-words j 4 words)
 
 -- ---- an object's words
 

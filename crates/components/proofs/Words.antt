@@ -191,7 +191,7 @@ unfoldable pub lifted : ℕ → List ℕ → List ℕ
 lifted zero words = words
 lifted (suc q) words = 0 ∷ lifted q words
 
-lifted-words : (j q : ℕ) (words : List ℕ) → ofWords j (lifted q words) ≡ product GF16 (ofWords j words) (power GF16 α (j * (4 * q)))
+pub lifted-words : (j q : ℕ) (words : List ℕ) → ofWords j (lifted q words) ≡ product GF16 (ofWords j words) (power GF16 α (j * (4 * q)))
 unfolding lifted ofWords
 lifted-words j zero words =
     sym (product-one GF16 GF16-formed (words-element j words))
@@ -210,7 +210,7 @@ lifted-words j (suc q) words =
         more : (q : ℕ) → 4 * suc q ≡ 4 * q + 4
         more q = omega arith
 
-one-word : (j t : ℕ) → ofWords j (t ∷ []) ≡ ofWord j t
+pub one-word : (j t : ℕ) → ofWords j (t ∷ []) ≡ ofWord j t
 unfolding ofWords
 one-word j t = ap (λ (x : ℕ). ofWord j t ⊕ x) (zero-product GF16 (power GF16 α (j * 4))) ∙ sum-zero (ofWord j t)
 

@@ -1,0 +1,2 @@
+-- What the contracts of `words` cite.
+pub mod Rows
