@@ -16,17 +16,15 @@ use Rattle.components.specs.Relations.{inBytes}
 use Rattle.components.specs.Windows.{Down, Raised, Landed}
 use Rattle.components.proofs.Octets.{drop-octets}
 use Rattle.components.proofs.Windows.{left, first-block, further-block, landed, signature-parts}
-use Rattle.components.proofs.Relations.{Keeps, holds, pairFar-keeps, pairNear-keeps, fourFar-keeps, fourNear-keeps}
-use Rattle.horner.specs.Sums.{two, four}
+use Rattle.components.proofs.Relations.{Keeps, keeps-holds, pairFar-keeps, fourFar-keeps}
+use Rattle.words.specs.Rows.{two, four}
 use Rattle.fold.specs.declared.Relation.{Relation}
-use Rattle.fold.specs.declared.Relation.the-variants.{PairFar, PairNear, FourFar, FourNear}
+use Rattle.fold.specs.declared.Relation.the-variants.{PairFar, FourFar}
 use Rattle.fold.specs.Folding.{known, upTo, reach, Blank, Fits, Kept}
 
 keeps : (r : Relation) → Keeps (upTo r) (known r)
 keeps PairFar = pairFar-keeps
-keeps PairNear = pairNear-keeps
 keeps FourFar = fourFar-keeps
-keeps FourNear = fourNear-keeps
 
 -- whole blocks, and less than one that is left over
 pub blocks-whole : (n block : ℕ) → 0 < block → n / block * block ≤ n
@@ -67,7 +65,7 @@ module _ (r : Relation) (before : List ℕ) (fits : Fits r before) (page : List 
   standing-first after part at whole after-octets same inside short down =
       record {
         stands = λ j one h.
-            first-block (known r) (keeps r .within) after after-octets all (same ∙ fits .whole) (omega arith) j (holds (upTo r) (known r) (keeps r) j one h)
+            first-block (known r) (keeps r .within) after after-octets all (same ∙ fits .whole) (omega arith) j (keeps-holds (upTo r) (known r) (keeps r) j one h)
             (drop at page) before (subst (λ (bytes : List ℕ). Down (inBytes (known r .offsets)) bytes before after) whole down) (fits .zeros)
             (omega (arith, short, inside, length-drop at page));
       }
@@ -79,7 +77,7 @@ module _ (r : Relation) (before : List ℕ) (fits : Fits r before) (page : List 
   standing-further old raised after part at from size bytes even reached whole next after-octets same inside stood up down =
       record {
         stands = λ j one h.
-            further-block (known r) (keeps r .within) after after-octets all (same ∙ fits .whole) (omega arith) j (holds (upTo r) (known r) (keeps r) j one h)
+            further-block (known r) (keeps r .within) after after-octets all (same ∙ fits .whole) (omega arith) j (keeps-holds (upTo r) (known r) (keeps r) j one h)
             (fits .block) (take (fits .block * 2) (drop at page)) old raised (omega (arith, inside, length-take (fits .block * 2) (drop at page), length-drop at page)) refl
             (subst (λ (n : ℕ). Raised (fits .block * 2) n old raised) reached (subst (λ (n : ℕ). Raised n bytes old raised) even up))
             (subst (λ (bytes : List ℕ). Down (inBytes (known r .offsets)) bytes raised after) whole down)
@@ -108,11 +106,9 @@ pub blank : (n : ℕ) → Blank n (replicate n 0)
 blank n = record { all = length-replicate n 0; zeros = zeros n }
 
 -- every relation leaves at most half of what a long window holds
-far-enough : (r : Relation) → known r .distance ≤ 796
+far-enough : (r : Relation) → known r .distance ≤ 938
 far-enough PairFar = omega arith
-far-enough PairNear = omega arith
 far-enough FourFar = omega arith
-far-enough FourNear = omega arith
 
 pub fitting : (r : Relation) (n half : ℕ) → n ≡ half * 2 → known r .distance + known r .distance ≤ half → Fits r (replicate n 0)
 fitting r n half even roomy =
@@ -126,11 +122,9 @@ fitting r n half even roomy =
   where
     some : (r : Relation) → 0 < known r .distance
     some PairFar = omega arith
-    some PairNear = omega arith
     some FourFar = omega arith
-    some FourNear = omega arith
 
-pub fitting-far : (r : Relation) (n half : ℕ) → n ≡ half * 2 → 1592 ≤ half → Fits r (replicate n 0)
+pub fitting-far : (r : Relation) (n half : ℕ) → n ≡ half * 2 → 1876 ≤ half → Fits r (replicate n 0)
 fitting-far r n half even long = fitting r n half even (omega (arith, long, far-enough r))
 
 pub two-kept : (r : Relation) (page left : List ℕ) → 2 ≤ upTo r → Kept r page left → two left ≡ two page

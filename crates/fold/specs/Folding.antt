@@ -7,20 +7,16 @@ use Rattle.field.specs.Field.{GF16, _⊕_}
 use Rattle.components.specs.Components.{signature}
 use Rattle.components.specs.Relations as Known
 use Rattle.fold.specs.declared.Relation.{Relation}
-use Rattle.fold.specs.declared.Relation.the-variants.{PairFar, PairNear, FourFar, FourNear}
+use Rattle.fold.specs.declared.Relation.the-variants.{PairFar, FourFar}
 
 abbrev pub known : Relation → Known.Relation
 known PairFar = Known.pairFar
-known PairNear = Known.pairNear
 known FourFar = Known.fourFar
-known FourNear = Known.fourNear
 
 -- for how many components it holds
 abbrev pub upTo : Relation → ℕ
 upTo PairFar = 2
-upTo PairNear = 2
 upTo FourFar = 4
-upTo FourNear = 4
 
 -- the bytes that it leaves
 abbrev pub reach : Relation → ℕ

@@ -1,78 +1,56 @@
-// The components of an object, without a product: relations of α fold it by exclusive or alone until few symbols are left, and Horner's rule takes those.
+// The components of an object, without a product: a relation of α folds it by exclusive or alone until few symbols are left, and those are divided in words.
 ghost use mathlib.Core.Path.{_≡_};
 ghost use Prim.Native.Nat.{ℕ, _+_, _≤_, _<_};
 ghost use lib.ListN.{length, getD};
-ghost use Rattle.components.specs.Relations.{gathered, inBytes, pairFar, pairNear, fourFar, fourNear};
+ghost use Rattle.components.specs.Relations.{gathered, inBytes, pairFar, fourFar};
 ghost use Rattle.components.specs.Windows.{Down, Landed, Raised};
-ghost use Rattle.horner.specs.Sums.{two, four};
+ghost use Rattle.components.specs.Components.{signature};
+ghost use Rattle.field.specs.Field.{GF16};
+ghost use Rattle.words.specs.Rows.{two, four};
 ghost use Rattle.fold.specs.Folding.{known, reach, Blank, Fits, Kept, Added};
-use horner::Four;
-use horner::Two;
+use words::Four;
+use words::Two;
 
-// Relations of α, for two components and for four: a far one for long objects, a near one for what it leaves.
+// Relations of α, for two components and for four.
 pub enum Relation {
     PairFar,
-    PairNear,
     FourFar,
-    FourNear,
+}
+
+// Component 1.
+pub fn first(object: &[u8]) -> u16
+    ensures { λ r. ⌜ r ≡ signature GF16 2 (now (object .entry)) 1 ⌝ }
+{
+    if object.len() <= 4096 {
+        return words::first(object);
+    }
+    let mut left = [0u8; 1876];
+    fold_far(Relation::PairFar, object, &mut left);
+    words::first(&left)
 }
 
 // Components 1 and 2.
 pub fn first_two(object: &[u8]) -> Two
     ensures { λ r. ⌜ r ≡ two (now (object .entry)) ⌝ }
 {
-    if object.len() <= 178 {
-        return horner::first_two(object);
+    if object.len() <= 4096 {
+        return words::first_two(object);
     }
-    if object.len() <= 1024 {
-        return two_near(object);
-    }
-    two_far(object)
-}
-
-fn two_far(object: &[u8]) -> Two
-    ensures { λ r. ⌜ r ≡ two (now (object .entry)) ⌝ }
-{
-    let mut left = [0u8; 938];
+    let mut left = [0u8; 1876];
     fold_far(Relation::PairFar, object, &mut left);
-    two_near(&left)
-}
-
-fn two_near(object: &[u8]) -> Two
-    ensures { λ r. ⌜ r ≡ two (now (object .entry)) ⌝ }
-{
-    let mut left = [0u8; 178];
-    fold_near(Relation::PairNear, object, &mut left);
-    horner::first_two(&left)
+    words::first_two(&left)
 }
 
 // Components 1 to 4.
 pub fn first_four(object: &[u8]) -> Four
     ensures { λ r. ⌜ r ≡ four (now (object .entry)) ⌝ }
 {
-    if object.len() <= 188 {
-        return horner::first_four(object);
+    if object.len() <= 2048 {
+        return words::first_four(object);
     }
-    if object.len() <= 1592 {
-        return four_near(object);
-    }
-    four_far(object)
-}
-
-fn four_far(object: &[u8]) -> Four
-    ensures { λ r. ⌜ r ≡ four (now (object .entry)) ⌝ }
-{
     let mut left = [0u8; 1592];
     fold_far(Relation::FourFar, object, &mut left);
-    four_near(&left)
-}
-
-fn four_near(object: &[u8]) -> Four
-    ensures { λ r. ⌜ r ≡ four (now (object .entry)) ⌝ }
-{
-    let mut left = [0u8; 188];
-    fold_near(Relation::FourNear, object, &mut left);
-    horner::first_four(&left)
+    words::first_four(&left)
 }
 
 // Windows by the length of what is folded: a longer one moves what stands in it less often, and costs more to clear.
@@ -92,14 +70,6 @@ fn fold_far_short(r: Relation, object: &[u8], left: &mut [u8])
     ensures { λ _. ⌜ Kept r (now (object .entry)) (now (left .exit)) ⌝ }
 {
     let mut window = [0u8; 5688];
-    fold(r, object, &mut window, left);
-}
-
-fn fold_near(r: Relation, object: &[u8], left: &mut [u8])
-    requires { ⌜ (reach r ≤ 890) × Blank (reach r) (now left) ⌝ }
-    ensures { λ _. ⌜ Kept r (now (object .entry)) (now (left .exit)) ⌝ }
-{
-    let mut window = [0u8; 1780];
     fold(r, object, &mut window, left);
 }
 
@@ -126,10 +96,8 @@ fn reach_of(r: Relation) -> usize
     ensures { λ bytes. ⌜ bytes ≡ reach r ⌝ }
 {
     match r {
-        Relation::PairFar => 938,
-        Relation::PairNear => 178,
+        Relation::PairFar => 1876,
         Relation::FourFar => 1592,
-        Relation::FourNear => 188,
     }
 }
 
@@ -153,47 +121,26 @@ fn down(r: Relation, block: &[u8], window: &mut [u8])
 {
     match r {
         Relation::PairFar => down_pair_far(block, window),
-        Relation::PairNear => down_pair_near(block, window),
         Relation::FourFar => down_four_far(block, window),
-        Relation::FourNear => down_four_near(block, window),
     }
 }
 
-// x^469 = x^93 + 1
+// x^938 = x^186 + 1
 fn gather_pair_far(x: u8, window: &[u8], i: usize) -> u8
-    requires { ⌜ i + 938 < length (now window) ⌝ }
+    requires { ⌜ i + 1876 < length (now window) ⌝ }
     ensures { λ r. ⌜ r ≡ gathered x (inBytes (pairFar .offsets)) (λ k. getD (now (window .entry)) k 0) i ⌝ }
 {
-    x ^ window[i + 752] ^ window[i + 938]
+    x ^ window[i + 1504] ^ window[i + 1876]
 }
 
 fn down_pair_far(block: &[u8], window: &mut [u8])
-    requires { ⌜ length (now block) + 938 ≤ length (now window) ⌝ }
+    requires { ⌜ length (now block) + 1876 ≤ length (now window) ⌝ }
     ensures { λ _. ⌜ Down (inBytes (pairFar .offsets)) (now (block .entry)) (now (window .entry)) (now (window .exit)) ⌝ }
 {
     let mut i = block.len();
     while i > 0 {
         i -= 1;
         window[i] = gather_pair_far(block[i], window, i);
-    }
-}
-
-// x^89 = x^22 + x^21 + x^13 + 1
-fn gather_pair_near(x: u8, window: &[u8], i: usize) -> u8
-    requires { ⌜ i + 178 < length (now window) ⌝ }
-    ensures { λ r. ⌜ r ≡ gathered x (inBytes (pairNear .offsets)) (λ k. getD (now (window .entry)) k 0) i ⌝ }
-{
-    x ^ window[i + 134] ^ window[i + 136] ^ window[i + 152] ^ window[i + 178]
-}
-
-fn down_pair_near(block: &[u8], window: &mut [u8])
-    requires { ⌜ length (now block) + 178 ≤ length (now window) ⌝ }
-    ensures { λ _. ⌜ Down (inBytes (pairNear .offsets)) (now (block .entry)) (now (window .entry)) (now (window .exit)) ⌝ }
-{
-    let mut i = block.len();
-    while i > 0 {
-        i -= 1;
-        window[i] = gather_pair_near(block[i], window, i);
     }
 }
 
@@ -216,31 +163,6 @@ fn down_four_far(block: &[u8], window: &mut [u8])
     }
 }
 
-// x^94 = x^61 + x^55 + x^42 + x^39 + x^34 + 1
-fn gather_four_near(x: u8, window: &[u8], i: usize) -> u8
-    requires { ⌜ i + 188 < length (now window) ⌝ }
-    ensures { λ r. ⌜ r ≡ gathered x (inBytes (fourNear .offsets)) (λ k. getD (now (window .entry)) k 0) i ⌝ }
-{
-    x
-        ^ window[i + 66]
-        ^ window[i + 78]
-        ^ window[i + 104]
-        ^ window[i + 110]
-        ^ window[i + 120]
-        ^ window[i + 188]
-}
-
-fn down_four_near(block: &[u8], window: &mut [u8])
-    requires { ⌜ length (now block) + 188 ≤ length (now window) ⌝ }
-    ensures { λ _. ⌜ Down (inBytes (fourNear .offsets)) (now (block .entry)) (now (window .entry)) (now (window .exit)) ⌝ }
-{
-    let mut i = block.len();
-    while i > 0 {
-        i -= 1;
-        window[i] = gather_four_near(block[i], window, i);
-    }
-}
-
 // ---- What a window leaves: its first bytes, and those that stand at each offset above them, summed.
 
 fn land(r: Relation, window: &[u8], left: &mut [u8])
@@ -249,28 +171,16 @@ fn land(r: Relation, window: &[u8], left: &mut [u8])
 {
     match r {
         Relation::PairFar => land_pair_far(window, left),
-        Relation::PairNear => land_pair_near(window, left),
         Relation::FourFar => land_four_far(window, left),
-        Relation::FourNear => land_four_near(window, left),
     }
 }
 
 fn land_pair_far(window: &[u8], left: &mut [u8])
-    requires { ⌜ (938 ≤ length (now window)) × Blank 938 (now left) ⌝ }
-    ensures { λ _. ⌜ Landed (inBytes (pairFar .offsets)) 938 (now (window .entry)) (now (left .exit)) ⌝ }
+    requires { ⌜ (1876 ≤ length (now window)) × Blank 1876 (now left) ⌝ }
+    ensures { λ _. ⌜ Landed (inBytes (pairFar .offsets)) 1876 (now (window .entry)) (now (left .exit)) ⌝ }
 {
-    add(window, 0, 938, left);
-    add(window, 752, 938, left);
-}
-
-fn land_pair_near(window: &[u8], left: &mut [u8])
-    requires { ⌜ (178 ≤ length (now window)) × Blank 178 (now left) ⌝ }
-    ensures { λ _. ⌜ Landed (inBytes (pairNear .offsets)) 178 (now (window .entry)) (now (left .exit)) ⌝ }
-{
-    add(window, 0, 178, left);
-    add(window, 134, 178, left);
-    add(window, 136, 178, left);
-    add(window, 152, 178, left);
+    add(window, 0, 1876, left);
+    add(window, 1504, 1876, left);
 }
 
 fn land_four_far(window: &[u8], left: &mut [u8])
@@ -281,18 +191,6 @@ fn land_four_far(window: &[u8], left: &mut [u8])
     add(window, 1110, 1592, left);
     add(window, 1426, 1592, left);
     add(window, 1432, 1592, left);
-}
-
-fn land_four_near(window: &[u8], left: &mut [u8])
-    requires { ⌜ (188 ≤ length (now window)) × Blank 188 (now left) ⌝ }
-    ensures { λ _. ⌜ Landed (inBytes (fourNear .offsets)) 188 (now (window .entry)) (now (left .exit)) ⌝ }
-{
-    add(window, 0, 188, left);
-    add(window, 66, 188, left);
-    add(window, 78, 188, left);
-    add(window, 104, 188, left);
-    add(window, 110, 188, left);
-    add(window, 120, 188, left);
 }
 
 // What the window holds from one place to another, added to the first bytes left.

@@ -113,11 +113,26 @@ pub fn own(n: usize, object: &[u8]) -> Signature
     if n > 2 {
         return own_four(n, object);
     }
-    let s = fold::first_two(object);
+    if n == 2 {
+        return own_two(object);
+    }
     Signature {
         n,
-        s1: up_to(n, 1, s.s1),
-        s2: up_to(n, 2, s.s2),
+        s1: up_to(n, 1, fold::first(object)),
+        s2: 0,
+        s3: 0,
+        s4: 0,
+    }
+}
+
+fn own_two(object: &[u8]) -> Signature
+    ensures { λ r. ⌜ r ≡ Object·own wide 2 (now (object .entry)) ⌝ }
+{
+    let s = fold::first_two(object);
+    Signature {
+        n: 2,
+        s1: s.s1,
+        s2: s.s2,
         s3: 0,
         s4: 0,
     }

@@ -25,20 +25,8 @@ down-pair-far-requires c κs = omega (arith, ap reach (c .before .enum-told .giv
 enum-told-2 : tie.Need-enum-told-2
 enum-told-2 c = search needs
 
-down-pair-near-requires : tie.Need-down-pair-near-requires
-down-pair-near-requires c κs = omega (arith, ap reach (c .before .enum-told2 .given .1))
-
-enum-told-3 : tie.Need-enum-told-3
-enum-told-3 c = search needs
-
 down-four-far-requires : tie.Need-down-four-far-requires
-down-four-far-requires c κs = omega (arith, ap reach (c .before .enum-told3 .given .1))
-
-enum-told-4 : tie.Need-enum-told-4
-enum-told-4 c = search needs
-
-down-four-near-requires : tie.Need-down-four-near-requires
-down-four-near-requires c κs = omega (arith, ap reach (c .before .enum-told4 .given .1))
+down-four-far-requires c κs = omega (arith, ap reach (c .before .enum-told2 .given .1))
 
 same-length : tie.Need-same-length
 same-length c = search needs
@@ -50,19 +38,7 @@ same-length-2 : tie.Need-same-length-2
 same-length-2 c = search needs
 
 returns-2 : tie.Need-returns-2
-returns-2 c = by-relation (c .before .before .before .before .enum-told2 .given .1) (c .before .before .down-pair-near .ensures)
-
-same-length-3 : tie.Need-same-length-3
-same-length-3 c = search needs
-
-returns-3 : tie.Need-returns-3
-returns-3 c = by-relation (c .before .before .before .before .enum-told3 .given .1) (c .before .before .down-four-far .ensures)
-
-same-length-4 : tie.Need-same-length-4
-same-length-4 c = search needs
-
-returns-4 : tie.Need-returns-4
-returns-4 c = by-relation (c .before .before .before .before .enum-told4 .given .1) (c .before .before .down-four-near .ensures)
+returns-2 c = by-relation (c .before .before .before .before .enum-told2 .given .1) (c .before .before .down-four-far .ensures)
 
 pub down-spec : {M : Type 1} → statement M
 down-spec =
@@ -71,16 +47,8 @@ down-spec =
     enum-told
     down-pair-far-requires
     enum-told-2
-    down-pair-near-requires
-    enum-told-3
     down-four-far-requires
-    enum-told-4
-    down-four-near-requires
     same-length
     returns
     same-length-2
-    returns-2
-    same-length-3
-    returns-3
-    same-length-4
-    returns-4)
+    returns-2)

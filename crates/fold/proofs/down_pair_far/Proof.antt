@@ -39,7 +39,7 @@ unfolding inside
 loop-again c =
     let at : _ = c .before .before .before .before .loop in
     let args : _ = c .before .before .before .before .before .before .before .args in (
-      taken-turn 938 (inBytes (pairFar .offsets)) tt (args .block .now) (args .window .now) (at .window) (at .i - 1)
+      taken-turn 1876 (inBytes (pairFar .offsets)) tt (args .block .now) (args .window .now) (at .window) (at .i - 1)
           (omega arith) (omega arith) (omega arith) (c .gather-pair-far .ensures) (at .inv .0),
       omega arith,
       length-set (at .window) _ _ ∙ at .inv .2,

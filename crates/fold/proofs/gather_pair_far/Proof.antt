@@ -1,4 +1,4 @@
--- `fold::gather_pair_far` meets its contract: it gathers at the offsets of x^469 = x^93 + 1.
+-- `fold::gather_pair_far` meets its contract: it gathers at the offsets of x^938 = x^186 + 1.
 -- Assumes nothing.
 use mathlib.Core.Path.{refl}
 use borrow.Author.Needs.{needs}

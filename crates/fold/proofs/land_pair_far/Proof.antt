@@ -23,8 +23,8 @@ returns c =
     let pre : _ = c .before .before .before .before .before .before .before .before .before .before .pre in
     let args : _ = c .before .before .before .before .before .before .before .before .before .before .args in
     let window : List ℕ = args .window .now in
-    landed-last 938 window (752 ∷ []) _
-    (landed-next 938 window [] 752 _ _ (landed-first 938 window _ _ (pre .1) (add-call .ensures)) (c .before .before .add2 .ensures))
+    landed-last 1876 window (1504 ∷ []) _
+    (landed-next 1876 window [] 1504 _ _ (landed-first 1876 window _ _ (pre .1) (add-call .ensures)) (c .before .before .add2 .ensures))
 
 pub land-pair-far-spec : {M : Type 1} → statement M
 land-pair-far-spec = tie.close (tie.spec add-requires add-requires-2 same-length returns)

@@ -1,11 +1,12 @@
--- `signature::own` meets its contract: above 2 by four components, and else by two.
--- Assumes nothing.
-use Prim.Native.Nat.{_<_}
-use native.Mathlib.Omega.{arith}
 use borrow.Author.Needs.{needs}
-use borrow.Author.Tests.{lt-leb}
 use Rattle.signature.proofs.own.Statement.{statement}
 use Rattle.signature.proofs.own.Tie as tie
+use Rattle.signature.proofs.own.Reads as reads
+use Rattle.signature.proofs.own.Lts as lts
+use Rattle.fold.proofs.first.Reads as first-reads
+use Rattle.signature.proofs.own_four.Reads as own-four-reads
+use Rattle.signature.proofs.own_two.Reads as own-two-reads
+use Rattle.signature.proofs.up_to.Reads as up-to-reads
 
 own-four-requires : tie.Need-own-four-requires
 own-four-requires c κs = search needs
@@ -13,21 +14,29 @@ own-four-requires c κs = search needs
 returns : tie.Need-returns
 returns c = search needs
 
-first-two-requires : tie.Need-first-two-requires
-first-two-requires c κs = search needs
+own-two-requires : tie.Need-own-two-requires
+own-two-requires c κs = search needs
+
+returns-2 : tie.Need-returns-2
+returns-2 c = ?
+
+first-requires : tie.Need-first-requires
+first-requires c κs = search needs
 
 up-to-requires : tie.Need-up-to-requires
 up-to-requires c κs = search needs
 
-up-to-requires-2 : tie.Need-up-to-requires-2
-up-to-requires-2 c κs = search needs
-
-returns-2 : tie.Need-returns-2
-returns-2 c =
-    let n : _ = c .before .before .before .before .before .args .n in
-    let three : n < 3 = omega arith in
-    let four : n < 4 = omega arith in
-    simp (c .up-to2 .ensures, c .before .up-to .ensures, c .before .before .first-two .ensures, lt-leb _ _ three, lt-leb _ _ four)
+returns-3 : tie.Need-returns-3
+returns-3 c = ?
 
 pub own-spec : {M : Type 1} → statement M
-own-spec = tie.close (tie.spec own-four-requires returns first-two-requires up-to-requires up-to-requires-2 returns-2)
+own-spec =
+    tie.close
+    (tie.spec
+    own-four-requires
+    returns
+    own-two-requires
+    returns-2
+    first-requires
+    up-to-requires
+    returns-3)

@@ -1,2 +1,0 @@
--- What the contracts of `horner` cite.
-pub mod Sums
