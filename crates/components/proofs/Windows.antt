@@ -158,7 +158,7 @@ module _ (R : Relation) where
       ap (λ (k : ℕ). component GF16 k (symbol 2 after) j) count
       ∙ component-same GF16 (R .distance) (symbol 2 after) _ j (λ i h.
       sym
-      (gathered-symbol (R .offsets) (lowest window) after i (take-octets (R .distance * 2) window octets) (sym (land .undone (i * 2))) (sym (land .undone (suc (i * 2))))))
+      (gathered-symbol (R .offsets) (lowest window) after i (take-octets (R .distance * 2) window octets) (sym (land .undone (i * 2) (omega (arith, h)))) (sym (land .undone (suc (i * 2)) (omega (arith, h))))))
     where
       count : symbols 2 after ≡ R .distance
       count = omega (arith, all)

@@ -16,4 +16,4 @@ pub record Raised (up reach : ℕ) (before after : List ℕ) : Type 0 where
 
 -- the rule undone over the first `reach` bytes, past which there count zeros: what is left of all that was folded
 pub record Landed (os : List ℕ) (reach : ℕ) (window after : List ℕ) : Type 0 where
-  pub undone : (k : ℕ) → getD after k 0 ≡ gathered (getD (take reach window) k 0) os (λ i. getD (take reach window) i 0) k
+  pub undone : (k : ℕ) → k < reach → getD after k 0 ≡ gathered (getD (take reach window) k 0) os (λ i. getD (take reach window) i 0) k

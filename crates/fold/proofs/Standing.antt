@@ -3,12 +3,12 @@
 use mathlib.Core.Path.{_≡_, refl, sym, ap, ap₂, _∙_, subst}
 use mathlib.Core.Logic.{dite}
 use mathlib.Core.List.{List}
-use Prim.Native.Nat.{ℕ, zero, suc, _+_, _-_, _*_, _/_, _≤_, _<_}
-use native.Mathlib.Nat.{div-add-mod', mod-lt, suc-mul}
+use Prim.Native.Nat.{ℕ, _+_, _-_, _*_, _/_, _%_, _≤_, _<_}
+use native.Mathlib.Nat.{div-add-mod', mod-lt, mod-eq-of-lt, mod-eq-sub-mod, mul-mod-left}
 use native.Mathlib.Omega.{arith}
 use native.Mathlib.Decide.{decLt}
 use lib.ListN.{length, getD, take, drop, replicate, length-take, length-drop, length-replicate, getD-replicate, List·getD-eq-default}
-use lib.Seq.{drop-drop, take-length}
+use lib.Seq.{drop-drop, take-length, getD-take}
 use Rattle.field.specs.Field.{GF16, _⊕_, product, power, α}
 use Rattle.components.specs.Objects.{Octets, symbols}
 use Rattle.components.specs.Components.{signature}
@@ -20,7 +20,7 @@ use Rattle.components.proofs.Relations.{Keeps, keeps-holds, pairFar-keeps, four
 use Rattle.words.specs.Rows.{two, four}
 use Rattle.fold.specs.declared.Relation.{Relation}
 use Rattle.fold.specs.declared.Relation.the-variants.{PairFar, FourFar}
-use Rattle.fold.specs.Folding.{known, upTo, reach, Blank, Fits, Kept}
+use Rattle.fold.specs.Folding.{known, upTo, reach, Fits, Kept}
 
 keeps : (r : Relation) → Keeps (upTo r) (known r)
 keeps PairFar = pairFar-keeps
@@ -33,13 +33,16 @@ blocks-whole n block some = omega (arith, div-add-mod' n block)
 pub blocks-rest : (n block : ℕ) → 0 < block → n ≤ n / block * block + block
 blocks-rest n block some = omega (arith, div-add-mod' n block, mod-lt n some)
 
+pub blocks-even : (n block : ℕ) → n / block * block % block ≡ 0
+blocks-even n block = mul-mod-left (n / block) block
+
 -- one block less
-pub block-below : (blocks block : ℕ) → 0 < blocks → (blocks - 1) * block + block ≡ blocks * block
-block-below (suc blocks) block some = ap (λ (n : ℕ). n * block + block) less ∙ sym (suc-mul blocks block)
-  where
-    less : suc blocks - 1 ≡ blocks
-    less = omega arith
-block-below zero block some = absurd (omega (arith, some))
+pub block-below : (at block : ℕ) → at % block ≡ 0 → 0 < at → block ≤ at
+block-below at block even some =
+    dite (decLt at block) (λ (h : at < block). absurd (omega (arith, some, sym (mod-eq-of-lt h) ∙ even))) (λ h. omega (arith, h))
+
+pub even-below : (at block : ℕ) → at % block ≡ 0 → block ≤ at → (at - block) % block ≡ 0
+even-below at block even h = sym (mod-eq-sub-mod h) ∙ even
 
 -- a slice from a place on
 pub part-rest : (at : ℕ) (page : List ℕ) → take (length page - at) (drop at page) ≡ drop at page
@@ -86,12 +89,13 @@ module _ (r : Relation) (before : List ℕ) (fits : Fits r before) (page : List 
             ∙ sym (signature-parts (fits .block) (drop at page) (omega (arith, inside, length-drop at page)) (drop-octets at page octets) j);
       }
 
-pub standing-landed : (r : Relation) (page window after : List ℕ) {at : ℕ} → at ≡ 0 → Octets window → length after ≡ reach r
-    → Standing r page window at → Landed (inBytes (known r .offsets)) (reach r) window after → Kept r page after
+pub standing-landed : (r : Relation) (page window after : List ℕ) {at : ℕ} → at ≡ 0 → Octets window → reach r ≤ length after
+    → Standing r page window at → Landed (inBytes (known r .offsets)) (reach r) window after → Kept r page (take (reach r) after)
 standing-landed r page window after {at} none octets whole stood land =
     record {
       kept = λ j one h.
-          landed (known r) window after octets whole land j
+          landed (known r) window (take (reach r) after) octets (omega (arith, whole, length-take (reach r) after))
+          (record { undone = λ k inside. getD-take (reach r) after k 0 inside ∙ land .undone k inside }) j
           ∙ stood .stands j one h
           ∙ ap (λ (i : ℕ). signature GF16 2 (drop i page) j) none;
     }
@@ -101,14 +105,6 @@ standing-landed r page window after {at} none octets whole stood land =
 zeros : (n k : ℕ) → _≡_ {A = ℕ} (getD (replicate n 0) k 0) 0
 zeros n k =
     dite (decLt k n) (λ (h : k < n). getD-replicate n k 0 0 h) (λ h. List·getD-eq-default (replicate n 0) 0 (omega (arith, h, length-replicate {A = ℕ} n 0)))
-
-pub blank : (n : ℕ) → Blank n (replicate n 0)
-blank n = record { all = length-replicate n 0; zeros = zeros n }
-
--- every relation leaves at most half of what a long window holds
-far-enough : (r : Relation) → known r .distance ≤ 938
-far-enough PairFar = omega arith
-far-enough FourFar = omega arith
 
 pub fitting : (r : Relation) (n half : ℕ) → n ≡ half * 2 → known r .distance + known r .distance ≤ half → Fits r (replicate n 0)
 fitting r n half even roomy =
@@ -123,9 +119,6 @@ fitting r n half even roomy =
     some : (r : Relation) → 0 < known r .distance
     some PairFar = omega arith
     some FourFar = omega arith
-
-pub fitting-far : (r : Relation) (n half : ℕ) → n ≡ half * 2 → 1876 ≤ half → Fits r (replicate n 0)
-fitting-far r n half even long = fitting r n half even (omega (arith, long, far-enough r))
 
 pub two-kept : (r : Relation) (page left : List ℕ) → 2 ≤ upTo r → Kept r page left → two left ≡ two page
 two-kept r page left enough k =

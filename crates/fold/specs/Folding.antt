@@ -24,11 +24,6 @@ reach r = known r .distance * 2
 
 -- ---- the loops
 
--- zeros, so many
-pub record Blank (count : ℕ) (bytes : List ℕ) : Type 0 where
-  pub all : length bytes ≡ count
-  pub zeros : (k : ℕ) → getD bytes k 0 ≡ 0
-
 -- a window of zeros for a block of whole symbols, which is no shorter than what the relation leaves
 pub record Fits (r : Relation) (window : List ℕ) : Type 0 where
   pub block : ℕ
@@ -41,6 +36,6 @@ pub record Fits (r : Relation) (window : List ℕ) : Type 0 where
 pub record Kept (r : Relation) (page left : List ℕ) : Type 0 where
   pub kept : (j : ℕ) → 1 ≤ j → j ≤ upTo r → signature GF16 2 left j ≡ signature GF16 2 page j
 
--- what a window holds from one place to another, added to the first bytes; past the other place there count zeros
-pub record Added (window : List ℕ) (from to : ℕ) (before after : List ℕ) : Type 0 where
-  pub added : (k : ℕ) → getD after k 0 ≡ getD before k 0 ⊕ getD (take to window) (k + from) 0
+-- what a window holds from one place to another, added to its first bytes
+pub record Added (from to : ℕ) (before after : List ℕ) : Type 0 where
+  pub added : (k : ℕ) → k < to → getD after k 0 ≡ getD before k 0 ⊕ getD (take to before) (k + from) 0

@@ -1,13 +1,13 @@
 // The components of an object, without a product: a relation of α folds it by exclusive or alone until few symbols are left, and those are divided in words.
 ghost use mathlib.Core.Path.{_≡_};
-ghost use Prim.Native.Nat.{ℕ, _+_, _≤_, _<_};
-ghost use lib.ListN.{length, getD};
+ghost use Prim.Native.Nat.{ℕ, _+_, _-_, _≤_, _<_};
+ghost use lib.ListN.{length, getD, take};
 ghost use Rattle.components.specs.Relations.{gathered, inBytes, pairFar, fourFar};
 ghost use Rattle.components.specs.Windows.{Down, Landed, Raised};
 ghost use Rattle.components.specs.Components.{signature};
 ghost use Rattle.field.specs.Field.{GF16};
 ghost use Rattle.words.specs.Rows.{two, four};
-ghost use Rattle.fold.specs.Folding.{known, reach, Blank, Fits, Kept, Added};
+ghost use Rattle.fold.specs.Folding.{known, reach, Fits, Kept, Added};
 use words::Four;
 use words::Two;
 
@@ -24,9 +24,9 @@ pub fn first(object: &[u8]) -> u16
     if object.len() <= 4096 {
         return words::first(object);
     }
-    let mut left = [0u8; 1876];
-    fold_far(Relation::PairFar, object, &mut left);
-    words::first(&left)
+    let mut window = [0u8; 10068];
+    fold(Relation::PairFar, object, &mut window);
+    words::first(lowest(&window, 1876))
 }
 
 // Components 1 and 2.
@@ -36,9 +36,9 @@ pub fn first_two(object: &[u8]) -> Two
     if object.len() <= 4096 {
         return words::first_two(object);
     }
-    let mut left = [0u8; 1876];
-    fold_far(Relation::PairFar, object, &mut left);
-    words::first_two(&left)
+    let mut window = [0u8; 10068];
+    fold(Relation::PairFar, object, &mut window);
+    words::first_two(lowest(&window, 1876))
 }
 
 // Components 1 to 4.
@@ -48,47 +48,40 @@ pub fn first_four(object: &[u8]) -> Four
     if object.len() <= 2048 {
         return words::first_four(object);
     }
-    let mut left = [0u8; 1592];
-    fold_far(Relation::FourFar, object, &mut left);
-    words::first_four(&left)
+    let mut window = [0u8; 9784];
+    fold(Relation::FourFar, object, &mut window);
+    words::first_four(lowest(&window, 1592))
 }
 
-// Windows by the length of what is folded: a longer one moves what stands in it less often, and costs more to clear.
-fn fold_far(r: Relation, object: &[u8], left: &mut [u8])
-    requires { ⌜ Blank (reach r) (now left) ⌝ }
-    ensures { λ _. ⌜ Kept r (now (object .entry)) (now (left .exit)) ⌝ }
+fn lowest(window: &[u8], reach: usize) -> &[u8]
+    requires { ⌜ reach ≤ length (now window) ⌝ }
+    ensures { λ r. ⌜ now r ≡ take reach (now (window .entry)) ⌝ }
 {
-    if object.len() <= 8192 {
-        return fold_far_short(r, object, left);
-    }
-    let mut window = [0u8; 13880];
-    fold(r, object, &mut window, left);
+    &window[..reach]
 }
 
-fn fold_far_short(r: Relation, object: &[u8], left: &mut [u8])
-    requires { ⌜ Blank (reach r) (now left) ⌝ }
-    ensures { λ _. ⌜ Kept r (now (object .entry)) (now (left .exit)) ⌝ }
-{
-    let mut window = [0u8; 5688];
-    fold(r, object, &mut window, left);
-}
-
-// The page is taken in block by block, from the top down; the window then leaves symbols of the same components.
-fn fold(r: Relation, page: &[u8], window: &mut [u8], left: &mut [u8])
-    requires { ⌜ Fits r (now window) × Blank (reach r) (now left) ⌝ }
-    ensures { λ _. ⌜ Kept r (now (page .entry)) (now (left .exit)) ⌝ }
+// The page is taken in block by block, from the top down; the window's lowest bytes are then left, symbols of the same components.
+fn fold(r: Relation, page: &[u8], window: &mut [u8])
+    requires { ⌜ Fits r (now window) ⌝ }
+    ensures { λ _. ⌜ Kept r (now (page .entry)) (take (reach r) (now (window .exit))) ⌝ }
 {
     let reach = reach_of(r);
     let block = window.len() - reach;
-    let mut blocks = page.len() / block;
-    down(r, &page[blocks * block..], window);
-    while blocks > 0 {
-        blocks -= 1;
-        let at = blocks * block;
+    let mut at = page.len() / block * block;
+    down(r, &page[at..], window);
+    while at > 0 {
+        at = below(at, block);
         raise(block, reach, window);
         down(r, &page[at..at + block], window);
     }
-    land(r, window, left);
+    land(r, window);
+}
+
+// A block less. By a function of its own, since a place that falls by a plain difference keeps the compiler from vectors where a block is taken in.
+fn below(at: usize, block: usize) -> usize
+    ensures { λ r. ⌜ r ≡ at - block ⌝ }
+{
+    if at < block { 0 } else { at - block }
 }
 
 // The bytes that a relation leaves.
@@ -163,45 +156,43 @@ fn down_four_far(block: &[u8], window: &mut [u8])
     }
 }
 
-// ---- What a window leaves: its first bytes, and those that stand at each offset above them, summed.
+// ---- What a window leaves: its lowest bytes, and those that stand at each offset above them, summed.
 
-fn land(r: Relation, window: &[u8], left: &mut [u8])
-    requires { ⌜ (reach r ≤ length (now window)) × Blank (reach r) (now left) ⌝ }
-    ensures { λ _. ⌜ Landed (inBytes (known r .offsets)) (reach r) (now (window .entry)) (now (left .exit)) ⌝ }
+fn land(r: Relation, window: &mut [u8])
+    requires { ⌜ reach r ≤ length (now window) ⌝ }
+    ensures { λ _. ⌜ Landed (inBytes (known r .offsets)) (reach r) (now (window .entry)) (now (window .exit)) ⌝ }
 {
     match r {
-        Relation::PairFar => land_pair_far(window, left),
-        Relation::FourFar => land_four_far(window, left),
+        Relation::PairFar => land_pair_far(window),
+        Relation::FourFar => land_four_far(window),
     }
 }
 
-fn land_pair_far(window: &[u8], left: &mut [u8])
-    requires { ⌜ (1876 ≤ length (now window)) × Blank 1876 (now left) ⌝ }
-    ensures { λ _. ⌜ Landed (inBytes (pairFar .offsets)) 1876 (now (window .entry)) (now (left .exit)) ⌝ }
+fn land_pair_far(window: &mut [u8])
+    requires { ⌜ 1876 ≤ length (now window) ⌝ }
+    ensures { λ _. ⌜ Landed (inBytes (pairFar .offsets)) 1876 (now (window .entry)) (now (window .exit)) ⌝ }
 {
-    add(window, 0, 1876, left);
-    add(window, 1504, 1876, left);
+    add(window, 1504, 1876);
 }
 
-fn land_four_far(window: &[u8], left: &mut [u8])
-    requires { ⌜ (1592 ≤ length (now window)) × Blank 1592 (now left) ⌝ }
-    ensures { λ _. ⌜ Landed (inBytes (fourFar .offsets)) 1592 (now (window .entry)) (now (left .exit)) ⌝ }
+fn land_four_far(window: &mut [u8])
+    requires { ⌜ 1592 ≤ length (now window) ⌝ }
+    ensures { λ _. ⌜ Landed (inBytes (fourFar .offsets)) 1592 (now (window .entry)) (now (window .exit)) ⌝ }
 {
-    add(window, 0, 1592, left);
-    add(window, 1110, 1592, left);
-    add(window, 1426, 1592, left);
-    add(window, 1432, 1592, left);
+    add(window, 1110, 1592);
+    add(window, 1426, 1592);
+    add(window, 1432, 1592);
 }
 
-// What the window holds from one place to another, added to the first bytes left.
-fn add(window: &[u8], from: usize, to: usize, left: &mut [u8])
-    requires { ⌜ (from ≤ to) × (to ≤ length (now window)) × (to ≤ length (now left)) ⌝ }
-    ensures { λ _. ⌜ Added (now (window .entry)) from to (now (left .entry)) (now (left .exit)) ⌝ }
+// What the window holds from one place to another, added to its first bytes.
+fn add(window: &mut [u8], from: usize, to: usize)
+    requires { ⌜ (from ≤ to) × (to ≤ length (now window)) ⌝ }
+    ensures { λ _. ⌜ Added from to (now (window .entry)) (now (window .exit)) ⌝ }
 {
     let count = to - from;
     let mut i: usize = 0;
     while i < count {
-        left[i] = left[i] ^ window[from + i];
+        window[i] = window[i] ^ window[from + i];
         i += 1;
     }
 }

@@ -1,8 +1,13 @@
 -- `fold::first` meets its contract: what a fold leaves has the same component.
 -- Assumes nothing.
-use mathlib.Core.Path.{_∙_}
 use native.Mathlib.Omega.{arith}
-use Rattle.fold.proofs.Standing.{blank}
+use mathlib.Core.Path.{ap, _∙_}
+use mathlib.Core.List.{List}
+use Prim.Native.Nat.{ℕ}
+use Rattle.field.specs.Field.{GF16}
+use Rattle.components.specs.Components.{signature}
+use Rattle.fold.proofs.Standing.{fitting}
+use Rattle.fold.specs.declared.Relation.the-variants.{PairFar}
 use borrow.Author.Needs.{needs}
 use Rattle.fold.proofs.first.Statement.{statement}
 use Rattle.fold.proofs.first.Tie as tie
@@ -13,20 +18,26 @@ first-requires c κs = search needs
 returns : tie.Need-returns
 returns c = search needs
 
-slice-aggregate-fold-far : tie.Need-slice-aggregate-fold-far
-slice-aggregate-fold-far c = search needs
+slice-aggregate-fold : tie.Need-slice-aggregate-fold
+slice-aggregate-fold c = search needs
 
-fold-far-requires : tie.Need-fold-far-requires
-fold-far-requires c κs = blank 1876
+fold-requires : tie.Need-fold-requires
+fold-requires c κs = fitting PairFar 10068 5034 (omega arith) (omega arith)
 
-slice-aggregate-first : tie.Need-slice-aggregate-first
-slice-aggregate-first c = search needs
+slice-aggregate-lowest : tie.Need-slice-aggregate-lowest
+slice-aggregate-lowest c = search needs
+
+lowest-requires : tie.Need-lowest-requires
+lowest-requires c κs = search needs
 
 first-requires-2 : tie.Need-first-requires-2
 first-requires-2 c κs = search needs
 
 returns-2 : tie.Need-returns-2
-returns-2 c = c .first2 .ensures ∙ c .before .before .before .fold-far .ensures .kept 1 (omega arith) (omega arith)
+returns-2 c =
+    c .first2 .ensures
+    ∙ ap (λ (left : List ℕ). signature GF16 2 left 1) (c .before .lowest .ensures)
+    ∙ c .before .before .before .before .fold .ensures .kept 1 (omega arith) (omega arith)
 
 pub first-spec : {M : Type 1} → statement M
 first-spec =
@@ -34,8 +45,9 @@ first-spec =
     (tie.spec
     first-requires
     returns
-    slice-aggregate-fold-far
-    fold-far-requires
-    slice-aggregate-first
+    slice-aggregate-fold
+    fold-requires
+    slice-aggregate-lowest
+    lowest-requires
     first-requires-2
     returns-2)

@@ -1,9 +1,10 @@
 -- `fold::first_four` meets its contract: what a fold leaves has the same components.
 -- Assumes nothing.
-use mathlib.Core.Path.{_∙_}
 use native.Mathlib.Omega.{arith}
+use mathlib.Core.Path.{ap, _∙_}
+use Rattle.words.specs.Rows.{four}
+use Rattle.fold.proofs.Standing.{fitting, four-kept}
 use Rattle.fold.specs.declared.Relation.the-variants.{FourFar}
-use Rattle.fold.proofs.Standing.{blank, four-kept}
 use borrow.Author.Needs.{needs}
 use Rattle.fold.proofs.first_four.Statement.{statement}
 use Rattle.fold.proofs.first_four.Tie as tie
@@ -14,20 +15,23 @@ first-four-requires c κs = search needs
 returns : tie.Need-returns
 returns c = search needs
 
-slice-aggregate-fold-far : tie.Need-slice-aggregate-fold-far
-slice-aggregate-fold-far c = search needs
+slice-aggregate-fold : tie.Need-slice-aggregate-fold
+slice-aggregate-fold c = search needs
 
-fold-far-requires : tie.Need-fold-far-requires
-fold-far-requires c κs = blank 1592
+fold-requires : tie.Need-fold-requires
+fold-requires c κs = fitting FourFar 9784 4892 (omega arith) (omega arith)
 
-slice-aggregate-first-four : tie.Need-slice-aggregate-first-four
-slice-aggregate-first-four c = search needs
+slice-aggregate-lowest : tie.Need-slice-aggregate-lowest
+slice-aggregate-lowest c = search needs
+
+lowest-requires : tie.Need-lowest-requires
+lowest-requires c κs = search needs
 
 first-four-requires-2 : tie.Need-first-four-requires-2
 first-four-requires-2 c κs = search needs
 
 returns-2 : tie.Need-returns-2
-returns-2 c = c .first-four2 .ensures ∙ four-kept FourFar _ _ (omega arith) (c .before .before .before .fold-far .ensures)
+returns-2 c = c .first-four2 .ensures ∙ ap four (c .before .lowest .ensures) ∙ four-kept FourFar _ _ (omega arith) (c .before .before .before .before .fold .ensures)
 
 pub first-four-spec : {M : Type 1} → statement M
 first-four-spec =
@@ -35,8 +39,9 @@ first-four-spec =
     (tie.spec
     first-four-requires
     returns
-    slice-aggregate-fold-far
-    fold-far-requires
-    slice-aggregate-first-four
+    slice-aggregate-fold
+    fold-requires
+    slice-aggregate-lowest
+    lowest-requires
     first-four-requires-2
     returns-2)

@@ -1,9 +1,10 @@
 -- `fold::first_two` meets its contract: what a fold leaves has the same components.
 -- Assumes nothing.
-use mathlib.Core.Path.{_∙_}
 use native.Mathlib.Omega.{arith}
+use mathlib.Core.Path.{ap, _∙_}
+use Rattle.words.specs.Rows.{two}
+use Rattle.fold.proofs.Standing.{fitting, two-kept}
 use Rattle.fold.specs.declared.Relation.the-variants.{PairFar}
-use Rattle.fold.proofs.Standing.{blank, two-kept}
 use borrow.Author.Needs.{needs}
 use Rattle.fold.proofs.first_two.Statement.{statement}
 use Rattle.fold.proofs.first_two.Tie as tie
@@ -14,20 +15,23 @@ first-two-requires c κs = search needs
 returns : tie.Need-returns
 returns c = search needs
 
-slice-aggregate-fold-far : tie.Need-slice-aggregate-fold-far
-slice-aggregate-fold-far c = search needs
+slice-aggregate-fold : tie.Need-slice-aggregate-fold
+slice-aggregate-fold c = search needs
 
-fold-far-requires : tie.Need-fold-far-requires
-fold-far-requires c κs = blank 1876
+fold-requires : tie.Need-fold-requires
+fold-requires c κs = fitting PairFar 10068 5034 (omega arith) (omega arith)
 
-slice-aggregate-first-two : tie.Need-slice-aggregate-first-two
-slice-aggregate-first-two c = search needs
+slice-aggregate-lowest : tie.Need-slice-aggregate-lowest
+slice-aggregate-lowest c = search needs
+
+lowest-requires : tie.Need-lowest-requires
+lowest-requires c κs = search needs
 
 first-two-requires-2 : tie.Need-first-two-requires-2
 first-two-requires-2 c κs = search needs
 
 returns-2 : tie.Need-returns-2
-returns-2 c = c .first-two2 .ensures ∙ two-kept PairFar _ _ (omega arith) (c .before .before .before .fold-far .ensures)
+returns-2 c = c .first-two2 .ensures ∙ ap two (c .before .lowest .ensures) ∙ two-kept PairFar _ _ (omega arith) (c .before .before .before .before .fold .ensures)
 
 pub first-two-spec : {M : Type 1} → statement M
 first-two-spec =
@@ -35,8 +39,9 @@ first-two-spec =
     (tie.spec
     first-two-requires
     returns
-    slice-aggregate-fold-far
-    fold-far-requires
-    slice-aggregate-first-two
+    slice-aggregate-fold
+    fold-requires
+    slice-aggregate-lowest
+    lowest-requires
     first-two-requires-2
     returns-2)

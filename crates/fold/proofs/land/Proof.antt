@@ -1,18 +1,16 @@
 -- `fold::land` meets its contract: each relation has its offsets.
 -- Assumes nothing.
-use mathlib.Core.Path.{_≡_, subst, subst⁻¹}
+use mathlib.Core.Path.{_≡_, ap, subst⁻¹}
 use mathlib.Core.List.{List}
-use Prim.Native.Nat.{ℕ, _≤_}
-use borrow.Author.Needs.{needs}
+use native.Mathlib.Omega.{arith}
+use Prim.Native.Nat.{ℕ}
 use Rattle.components.specs.Relations.{inBytes}
 use Rattle.components.specs.Windows.{Landed}
 use Rattle.fold.specs.declared.Relation.{Relation}
-use Rattle.fold.specs.Folding.{known, reach, Blank}
+use Rattle.fold.specs.Folding.{known, reach}
+use borrow.Author.Needs.{needs}
 use Rattle.fold.proofs.land.Statement.{statement}
 use Rattle.fold.proofs.land.Tie as tie
-
-asked : {r s : Relation} → r ≡ s → {count : ℕ} {left : List ℕ} → (reach r ≤ count) × Blank (reach r) left → (reach s ≤ count) × Blank (reach s) left
-asked e {count} {left} = subst (λ (r : Relation). (reach r ≤ count) × Blank (reach r) left) e
 
 by-relation : {r s : Relation} → r ≡ s → {window after : List ℕ} → Landed (inBytes (known s .offsets)) (reach s) window after
     → Landed (inBytes (known r .offsets)) (reach r) window after
@@ -22,13 +20,13 @@ enum-told : tie.Need-enum-told
 enum-told c = search needs
 
 land-pair-far-requires : tie.Need-land-pair-far-requires
-land-pair-far-requires c κs = asked (c .before .enum-told .given .1) (c .before .before .before .before .before .pre)
+land-pair-far-requires c κs = omega (arith, ap reach (c .before .enum-told .given .1))
 
 enum-told-2 : tie.Need-enum-told-2
 enum-told-2 c = search needs
 
 land-four-far-requires : tie.Need-land-four-far-requires
-land-four-far-requires c κs = asked (c .before .enum-told2 .given .1) (c .before .before .before .before .before .pre)
+land-four-far-requires c κs = omega (arith, ap reach (c .before .enum-told2 .given .1))
 
 same-length : tie.Need-same-length
 same-length c = search needs
