@@ -128,11 +128,11 @@ pub fn own(n: usize, object: &[u8]) -> Signature
 fn own_two(object: &[u8]) -> Signature
     ensures { λ r. ⌜ r ≡ Object·own wide 2 (now (object .entry)) ⌝ }
 {
-    let s = fold::first_two(object);
+    let two = fold::first_two(object);
     Signature {
         n: 2,
-        s1: s.s1,
-        s2: s.s2,
+        s1: two.s1,
+        s2: two.s2,
         s3: 0,
         s4: 0,
     }
