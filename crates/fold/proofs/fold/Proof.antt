@@ -1,3 +1,5 @@
+-- `fold::fold` meets its contract. The invariant: the window stands for the page from `at` on, and whole blocks are left below.
+-- Assumes nothing.
 use Rattle.fold.proofs.Standing.{Standing, standing-first, standing-further, standing-landed, blocks-whole, blocks-rest, blocks-even, block-below, even-below, part-rest, part-next}
 use Rattle.fold.specs.Folding.{known, reach, Fits}
 use Rattle.fold.specs.declared.Relation.{Relation}
@@ -9,13 +11,6 @@ use mathlib.Core.List.{List}
 use mathlib.Core.Path.{_≡_, refl, sym, ap, _∙_}
 use Rattle.fold.proofs.fold.Statement.{statement}
 use Rattle.fold.proofs.fold.Tie as tie
-use Rattle.fold.proofs.fold.Reads as reads
-use Rattle.fold.proofs.fold.Lts as lts
-use Rattle.fold.proofs.below.Reads as below-reads
-use Rattle.fold.proofs.down.Reads as down-reads
-use Rattle.fold.proofs.land.Reads as land-reads
-use Rattle.fold.proofs.raise.Reads as raise-reads
-use Rattle.fold.proofs.reach_of.Reads as reach-of-reads
 
 -- what is known of a page of n bytes, cut into blocks
 record Cut (r : Relation) (window : List ℕ) (fits : Fits r window) (block n : ℕ) : Type 0 where
