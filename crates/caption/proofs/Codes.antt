@@ -4,6 +4,7 @@
 use mathlib.Core.Path.{_≡_, refl, sym, ap, ap₂, _∙_}
 use Prim.Native.Nat.{ℕ, zero, suc, _+_, _*_}
 use native.Mathlib.Nat.{suc-add, add-comm, add-assoc, mul-one}
+use native.Mathlib.Omega.{arith}
 use lib.Pow.{pow-pos}
 use Rattle.field.specs.Field.{Field, Element, _⊕_, product, doubled, power, α}
 use Rattle.field.proofs.Sums.{sum-comm, sum-undo, sum-lt}
@@ -61,6 +62,12 @@ module _ (F : Field) (e : ℕ) where
         sym (product-two F (formed F good) (product-element F (formed F good) (weight F e k) h))
         ∙ product-assoc F (formed F good) h (weight-element k) (α-element F (formed F good))
         ∙ ap (product F x) (weight-up k)
+
+    -- a weight, n symbols on
+    pub weight-on : (k n : ℕ) → product F (weight F e k) (weight F 0 n) ≡ weight F e (k + n)
+    weight-on k n =
+        let exponent : k + e + (n + 0) ≡ k + n + e = omega arith in
+        sym (power-add F (formed F good) (k + e) (n + 0) (α-element F (formed F good))) ∙ ap (power F α) exponent
 
     undone : (k : ℕ) → product F (weight F e k) (unweight F e k) ≡ 1
     undone k = power-undone F good (k + e)

@@ -1,16 +1,18 @@
 // Caption fields in the cumulative code: a field encoded, decoded, and searched for a plain pattern as it stands, without decoding.
+ghost use mathlib.Core.List.{List};
 ghost use mathlib.Core.Path.{_≡_};
-ghost use Prim.Native.Nat.{_+_, _*_, _^_, _≤_, _<_};
+ghost use Prim.Native.Nat.{ℕ, _+_, _*_, _%_, _^_, _≤_, _<_, min};
 ghost use lib.Dec.{eqb};
-ghost use lib.ListN.{length};
+ghost use lib.ListN.{length, getD};
 ghost use Rattle.units.specs.Filling.{outcomeOf};
 ghost use Rattle.units.specs.Refusals.{first};
 ghost use Rattle.units.specs.Writing.{written};
 ghost use Rattle.units.specs.declared.Verdict.the-variants.{Allowed, Refused};
-ghost use Rattle.field.specs.Field.{_⊕_};
+ghost use Rattle.field.specs.Field.{GF16, _⊕_};
+ghost use Rattle.field.specs.Field.{product as Field·product};
 ghost use Rattle.signature.specs.Objects.{symbol as Object·symbol, symbols as Object·symbols};
-ghost use Rattle.caption.specs.Codes.{previous as Code·previous};
-ghost use Rattle.caption.specs.Recoding.{encoded, decoded, tooLong, recodeTests, encoding, decoding};
+ghost use Rattle.caption.specs.Codes.{previous as Code·previous, weight as Code·weight};
+ghost use Rattle.caption.specs.Recoding.{bytes, encoded, decoded, tooLong, recodeTests, encoding, decoding};
 ghost use Rattle.caption.specs.Searches.{found, placesFor, searchedOf, searchUnless, searchTests, searching};
 use units::Bytes;
 use units::Filled;
@@ -78,23 +80,121 @@ fn refused(number: u32, value: usize) -> Verdict
     Verdict::Refused(Refusal { number, value })
 }
 
-// Upward: the weight is doubled at each symbol, and the sum is the code so far.
+// Upward, a block at a time: the sum is the code so far.
 fn put_code(caption: &[u8], output: &mut [u8])
-    requires { ⌜ Object·symbols 2 (now caption) * 2 ≤ length (now output) ⌝ }
+    requires { ⌜ (length (now caption) % 2 ≡ 0) × (length (now caption) ≤ length (now output)) ⌝ }
     ensures { λ _. ⌜ now (output .exit) ≡ written (now (output .entry)) 0 (encoded 0 (now (caption .entry))) ⌝ }
 {
     let count = signature::symbols_in(caption).count;
-    let mut weight: u16 = 1;
+    let mut weights = [0u16; 16];
+    put_weights(1, &mut weights);
+    let mut block = [0u16; 16];
     let mut sum: u16 = 0;
     let mut i: usize = 0;
     while i < count {
-        let here = Symbols { count: i };
-        let plain = signature::symbol(caption, here);
-        sum = field::sum(sum, field::product(plain, weight));
-        signature::put_two_bytes(sum as usize, output, units::bytes_of(here).count);
-        weight = field::double(weight);
-        i += 1;
+        let n = block_of(count - i);
+        read_symbols(caption, i, n, &mut block);
+        weigh(&mut block, &mut weights);
+        sum = put_sums(&block, sum, i, n, output);
+        i += n;
     }
+}
+
+// Symbols of the next block, where there are so many left.
+fn block_of(left: usize) -> usize
+    ensures { λ r. ⌜ r ≡ min left 16 ⌝ }
+{
+    if left < 16 { left } else { 16 }
+}
+
+// The weights of a block, each the double of the one before.
+fn put_weights(first: u16, weights: &mut [u16])
+    ensures { λ _. ⌜ ((l : ℕ) → l < length (now (weights .entry)) → getD (now (weights .exit)) l 0 ≡ Field·product GF16 first (Code·weight GF16 0 l)) ⌝ }
+{
+    let mut weight = first;
+    let mut l: usize = 0;
+    while l < weights.len() {
+        weights[l] = weight;
+        weight = field::double(weight);
+        l += 1;
+    }
+}
+
+// The n symbols from place i on.
+fn read_symbols(caption: &[u8], i: usize, n: usize, block: &mut [u16])
+    requires { ⌜ ((i + n) * 2 ≤ length (now caption)) × (n ≤ length (now block)) ⌝ }
+    ensures { λ _. ⌜ ((l : ℕ) → l < n → getD (now (block .exit)) l 0 ≡ Object·symbol 2 (now (caption .entry)) (i + l)) ⌝ }
+{
+    let mut l: usize = 0;
+    while l < n {
+        block[l] = symbol_at(caption, i + l);
+        l += 1;
+    }
+}
+
+// The symbol at a place that has both its bytes.
+fn symbol_at(caption: &[u8], i: usize) -> u16
+    requires { ⌜ i * 2 + 1 < length (now caption) ⌝ }
+    ensures { λ r. ⌜ r ≡ Object·symbol 2 (now (caption .entry)) i ⌝ }
+{
+    caption[i * 2] as u16 + caption[i * 2 + 1] as u16 * 256
+}
+
+// Each symbol of a block times its weight. The weights become those of 16 symbols on.
+fn weigh(block: &mut [u16], weights: &mut [u16])
+    requires { ⌜ (length (now block) ≡ 16) × (length (now weights) ≡ 16) ⌝ }
+    ensures product { λ _. ⌜ ((l : ℕ) → l < 16 → getD (now (block .exit)) l 0 ≡ Field·product GF16 (getD (now (block .entry)) l 0) (getD (now (weights .entry)) l 0)) ⌝ }
+    ensures weight { λ _. ⌜ ((l : ℕ) → l < 16 → getD (now (weights .exit)) l 0 ≡ Field·product GF16 (getD (now (weights .entry)) l 0) (Code·weight GF16 0 16)) ⌝ }
+{
+    let mut l: usize = 0;
+    while l < 16 {
+        let w = weighed(block[l], weights[l]);
+        block[l] = w.product;
+        weights[l] = w.weight;
+        l += 1;
+    }
+}
+
+// A symbol times its weight, and the weight 16 symbols on.
+struct Weighing {
+    product: u16,
+    weight: u16,
+}
+
+// A digit of the symbol a turn, and no branch: so many symbols are weighed at once.
+fn weighed(symbol: u16, weight: u16) -> Weighing
+    ensures product { λ r. ⌜ r .product ≡ Field·product GF16 symbol weight ⌝ }
+    ensures weight { λ r. ⌜ r .weight ≡ Field·product GF16 weight (Code·weight GF16 0 16) ⌝ }
+{
+    let mut r: u16 = 0;
+    let mut x = weight;
+    let mut y = symbol;
+    let mut turn: usize = 0;
+    while turn < 16 {
+        r = field::sum(y % 2 * x, r);
+        x = field::double(x);
+        y = y / 2;
+        turn += 1;
+    }
+    Weighing {
+        product: r,
+        weight: x,
+    }
+}
+
+// The code from place i on, by the n weighed symbols that each add to the sum. Its last symbol is the answer.
+fn put_sums(block: &[u16], start: u16, i: usize, n: usize, output: &mut [u8]) -> u16
+    requires { ⌜ ((i + n) * 2 ≤ length (now output)) × (n ≤ length (now block)) ⌝ }
+    ensures { λ r. ⌜ ((code : ℕ → ℕ) (old : List ℕ) → length old ≡ length (now (output .entry)) → start ≡ Code·previous code i → ((l : ℕ) → l < n → Code·previous code (i + l) ⊕ getD (now (block .entry)) l 0 ≡ code (i + l)) → now (output .entry) ≡ written old 0 (bytes i code) → (r ≡ Code·previous code (i + n)) × (now (output .exit) ≡ written old 0 (bytes (i + n) code))) ⌝ }
+{
+    let mut sum = start;
+    let mut l: usize = 0;
+    while l < n {
+        sum = field::sum(sum, block[l]);
+        signature::put_two_bytes(sum as usize, output, (i + l) * 2);
+        l += 1;
+    }
+    sum
 }
 
 // Downward, so that what undoes the weight is doubled at each symbol.

@@ -3,7 +3,7 @@
 use mathlib.Core.Path.{sym, _∙_}
 use borrow.Author.Needs.{needs}
 use Rattle.caption.specs.Recoding.{encoded}
-use Rattle.caption.proofs.Allowing.{recodable, recodable-room, recoded, not-recoded}
+use Rattle.caption.proofs.Allowing.{recodable, recoded, not-recoded}
 use Rattle.caption.proofs.encode.Statement.{statement}
 use Rattle.caption.proofs.encode.Tie as tie
 
@@ -20,7 +20,8 @@ put-code-requires : tie.Need-put-code-requires
 put-code-requires c κs =
     let recode-verdict : _ = c .before .before .before .recode-verdict in
     let args : _ = c .before .before .before .before .before .before .before .args in
-    recodable-room (args .caption .now) (args .output .now) (recodable (args .caption .now) (args .output .now) (sym (recode-verdict .ensures) ∙ c .before .enum-told .given .1))
+    let allowed : _ = recodable (args .caption .now) (args .output .now) (sym (recode-verdict .ensures) ∙ c .before .enum-told .given .1) in
+    (allowed .even, allowed .fits)
 
 same-length : tie.Need-same-length
 same-length c = search needs
