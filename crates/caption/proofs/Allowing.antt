@@ -1,13 +1,14 @@
 -- What it means that no test of encode and decode, or of a search, applies: in words of lengths, and back.
 -- Assumes nothing.
 use mathlib.Core.Path.{_≡_, sym, ap, _∙_}
-use mathlib.Core.Logic.{_≢_}
+use mathlib.Core.Logic.{_≢_, dite}
 use mathlib.Core.Bool.{and-eq-true-iff}
 use mathlib.Core.List.{List}
-use Prim.Native.Nat.{ℕ, _*_, _%_, _≤_}
+use Prim.Native.Nat.{ℕ, _+_, _-_, _%_, _≤_, _<_}
+use native.Mathlib.Decide.{decLt}
 use native.Mathlib.Omega.{arith}
 use lib.ListN.{length}
-use borrow.Author.Tests.{leb-true, eqb-true, eqb-false, ltb-false, not-false, le-leb, eq-eqb, ne-eqb, le-ltb}
+use borrow.Author.Tests.{leb-true, eqb-true, eqb-false, ltb-false, not-false, lt-leb, le-leb, eq-eqb, ne-eqb, le-ltb}
 use Rattle.units.specs.Refusals.{first}
 use Rattle.units.specs.Filling.{outcome, outcomeOf}
 use Rattle.units.specs.Writing.{written}
@@ -19,6 +20,7 @@ use Rattle.units.proofs.Refusing.{allowed-when}
 use Rattle.signature.specs.Objects.{symbols}
 use Rattle.signature.specs.Kinds.{wide}
 use Rattle.signature.specs.Operations.{whole}
+use Rattle.caption.specs.Codes.{places}
 use Rattle.caption.specs.Recoding.{recodeTests, recoding}
 use Rattle.caption.specs.Searches.{placesFor, searchTests}
 
@@ -39,10 +41,6 @@ recodable caption output allowed =
 
 pub recode-allowed : (caption output : List ℕ) → Recodable caption output → first (recodeTests caption output) ≡ Allowed
 recode-allowed caption output r = simp (le-leb _ _ (r .short), eq-eqb _ _ (r .even), le-ltb _ _ (r .fits))
-
--- whole symbols are half as many as bytes
-pub recodable-room : (caption output : List ℕ) → Recodable caption output → symbols 2 caption * 2 ≤ length output
-recodable-room caption output r = omega (arith, r .even, r .fits)
 
 -- what encode and decode answer and leave, from what their tests said
 
@@ -78,3 +76,15 @@ searchable caption pattern list allowed =
 pub search-allowed : (caption pattern list : List ℕ) → Searchable caption pattern list → first (searchTests caption pattern list) ≡ Allowed
 search-allowed caption pattern list s =
     simp (le-leb _ _ (s .short), eq-eqb _ _ (s .even), eq-eqb _ _ (s .pattern-even), le-ltb _ _ (s .fits), ne-eqb _ _ (s .some))
+
+-- at each place the pattern's symbols are inside the field
+pub place-inside : (m l i : ℕ) → i < places m l → i + l ≤ m
+place-inside m l i h =
+    dite (decLt l 1) (λ (none : l < 1). let no : places m l ≡ 0 = simp (lt-leb 1 l none) in omega arith)
+    (λ some.
+    let one : 1 ≤ l = omega arith in
+    dite (decLt m l) (λ (longer : m < l). let no : places m l ≡ 0 = simp (le-leb 1 l one, lt-leb l m longer) in omega arith)
+    (λ shorter.
+    let fits : l ≤ m = omega arith in
+    let all : places m l ≡ m - l + 1 = simp (le-leb 1 l one, le-leb l m fits) in
+    omega arith))

@@ -3,14 +3,14 @@
 -- Assumes nothing.
 use mathlib.Core.Path.{_≡_, refl, sym, ap, ap₂, _∙_}
 use Prim.Native.Nat.{ℕ, zero, suc, _+_, _*_}
-use native.Mathlib.Nat.{suc-add, add-comm, add-assoc, mul-one}
+use native.Mathlib.Nat.{suc-add, add-zero, add-comm, add-assoc, mul-one}
 use native.Mathlib.Omega.{arith}
 use lib.Pow.{pow-pos}
 use Rattle.field.specs.Field.{Field, Element, _⊕_, product, doubled, power, α}
 use Rattle.field.proofs.Sums.{sum-comm, sum-undo, sum-lt}
 use Rattle.field.proofs.Reducing.{sum-product}
 use Rattle.field.proofs.Products.{product-element, product-assoc, product-comm, product-one, one-product, product-two}
-use Rattle.field.proofs.Powers.{α-element, α-power, power-add}
+use Rattle.field.proofs.Powers.{α-element, α-power, power-zero, power-add, power-doubled}
 use Rattle.field.proofs.Tests.{Passes, formed}
 use Rattle.field.proofs.Orders.{power-undone}
 use Rattle.signature.specs.Signatures.{total, component}
@@ -52,11 +52,7 @@ module _ (F : Field) (e : ℕ) where
     unfolding power
     weight-up k = ap (power F α) (sym (suc-add k e))
 
-    -- the weight is doubled
-    pub weight-turn : (k : ℕ) → doubled F (weight F e k) ≡ weight F e (suc k)
-    weight-turn k = sym (product-two F (formed F good) (weight-element k)) ∙ weight-up k
-
-    -- and so is what is weighted
+    -- what is weighted is doubled
     pub weighed-turn : (k : ℕ) {x : ℕ} → Element F x → doubled F (product F x (weight F e k)) ≡ product F x (weight F e (suc k))
     weighed-turn k {x} h =
         sym (product-two F (formed F good) (product-element F (formed F good) (weight F e k) h))
@@ -100,6 +96,19 @@ module _ (F : Field) (e : ℕ) where
       where
         one-unweighed : (k : ℕ) → product F 1 (unweight F e k) ≡ unweight F e k
         one-unweighed k = one-product F (formed F good) (unweight-element k)
+
+    -- and so it comes n symbols down
+    pub unweight-on : (k n : ℕ) → product F (unweight F e (k + n)) (weight F 0 n) ≡ unweight F e k
+    unweight-on k zero =
+        ap₂ (λ (i x : ℕ). product F (unweight F e i) x) (add-zero k) (power-zero F (formed F good) α)
+        ∙ product-one F (formed F good) (unweight-element k)
+    unweight-on k (suc n) =
+        let place : k + suc n ≡ suc (k + n) = omega arith in
+        let exponent : suc n + 0 ≡ suc (n + 0) = omega arith in
+        ap₂ (λ (i j : ℕ). product F (unweight F e i) (power F α j)) place exponent
+        ∙ sym (power-doubled F (formed F good) (n + 0) (unweight-element (suc (k + n))))
+        ∙ ap (λ (x : ℕ). product F x (weight F 0 n)) (unweight-turn (k + n))
+        ∙ unweight-on k n
 
     pub weights-tell : (k : ℕ) {x y : ℕ} → Element F x → Element F y → product F x (weight F e k) ≡ product F y (weight F e k) → x ≡ y
     weights-tell k hx hy same = sym (weighed-back k hx) ∙ ap (λ (z : ℕ). product F z (unweight F e k)) same ∙ weighed-back k hy

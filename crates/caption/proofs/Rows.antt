@@ -2,28 +2,20 @@
 -- Assumes nothing.
 use mathlib.Core.Path.{_≡_, sym, ap, ap₂, _∙_}
 use mathlib.Core.List.{List, _++_}
-use Prim.Native.Nat.{ℕ, zero, suc, _+_, _-_, _*_, _%_, _^_, _≤_, _<_}
+use Prim.Native.Nat.{ℕ, zero, suc, _+_, _-_, _*_, _%_, _≤_, _<_}
 use native.Mathlib.Nat.{zero-add, add-zero}
 use native.Mathlib.Omega.{arith}
 use lib.ListN.{length, take, drop}
 use lib.Seq.{take-all}
-use Rattle.units.specs.Counts.{bytesIn}
 use Rattle.units.specs.Runs.{endToEnd}
-use Rattle.units.specs.Writing.{written, partPut}
+use Rattle.units.specs.Writing.{written}
 use Rattle.units.proofs.Runs.{run-none, run-length, run-at, run-same, run-back, run-up, run-down}
 use Rattle.units.proofs.Writing.{written-none}
 use Rattle.signature.specs.Objects.{Octets, lowFirst, lowBytes, symbol, symbols}
-use Rattle.signature.proofs.Numbers.{low-bytes-length, two-bytes-put, low-first-after, written-read, read-written}
+use Rattle.signature.proofs.Numbers.{low-bytes-length, low-first-after, written-read, read-written}
 use Rattle.signature.proofs.Octets.{append-octets, low-bytes-octets}
 use Rattle.signature.proofs.Parts.{symbols-whole, whole-length}
 use Rattle.caption.specs.Recoding.{bytes}
-
--- a symbol put at its place among the bytes
-pub symbol-put : (x : ℕ) (old : List ℕ) (i at : ℕ) → at ≡ bytesIn 2 i → suc i * 2 ≤ length old → length old < 2 ^ 64
-    → partPut (lowBytes 2 x) old at ≡ written old (i * 2) (lowBytes 2 x)
-symbol-put x old i at is fits fitting =
-    let place : at ≡ i * 2 = omega arith in
-    ap (partPut (lowBytes 2 x) old) place ∙ two-bytes-put x old (i * 2) (omega arith)
 
 module _ (s : ℕ → ℕ) where
   sized : (k : ℕ) → length (lowBytes 2 (s k)) ≡ 2

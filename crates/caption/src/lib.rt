@@ -1,7 +1,7 @@
 // Caption fields in the cumulative code: a field encoded, decoded, and searched for a plain pattern as it stands, without decoding.
 ghost use mathlib.Core.List.{List};
 ghost use mathlib.Core.Path.{_≡_};
-ghost use Prim.Native.Nat.{ℕ, _+_, _*_, _%_, _^_, _≤_, _<_, min};
+ghost use Prim.Native.Nat.{ℕ, _+_, _-_, _*_, _%_, _^_, _≤_, _<_, min};
 ghost use lib.Dec.{eqb};
 ghost use lib.ListN.{length, getD};
 ghost use Rattle.units.specs.Filling.{outcomeOf};
@@ -18,7 +18,6 @@ use units::Bytes;
 use units::Filled;
 use units::Listed;
 use units::Refusal;
-use units::Symbols;
 use units::Verdict;
 
 // The code of a plain field, written to the start of the output.
@@ -197,32 +196,62 @@ fn put_sums(block: &[u16], start: u16, i: usize, n: usize, output: &mut [u8]) ->
     sum
 }
 
-// Downward, so that what undoes the weight is doubled at each symbol.
+// Downward, a block at a time: what undoes the weights is then doubled from place to place as weights are.
 fn put_plain(caption: &[u8], output: &mut [u8])
-    requires { ⌜ Object·symbols 2 (now caption) * 2 ≤ length (now output) ⌝ }
+    requires { ⌜ (length (now caption) % 2 ≡ 0) × (length (now caption) ≤ length (now output)) ⌝ }
     ensures { λ _. ⌜ now (output .exit) ≡ written (now (output .entry)) 0 (decoded 0 (now (caption .entry))) ⌝ }
 {
     let all = signature::symbols_in(caption);
-    let mut unweight = field::times_power(1, units::exponent_back(all));
+    let mut unweights = [0u16; 16];
+    put_weights(
+        field::double(field::times_power(1, units::exponent_back(all))),
+        &mut unweights,
+    );
+    let mut block = [0u16; 16];
     let mut i = all.count;
     while i > 0 {
-        i -= 1;
-        unweight = field::double(unweight);
-        let here = Symbols { count: i };
-        let weighed = field::sum(signature::symbol(caption, here), previous(caption, here));
-        let plain = field::product(weighed, unweight);
-        signature::put_two_bytes(plain as usize, output, units::bytes_of(here).count);
+        let n = block_of(i);
+        read_changes(caption, i, n, &mut block);
+        weigh(&mut block, &mut unweights);
+        put_symbols(&block, i, n, output);
+        i -= n;
+    }
+}
+
+// What each of the n symbols below place i adds to the code, downward.
+fn read_changes(caption: &[u8], i: usize, n: usize, block: &mut [u16])
+    requires { ⌜ (i * 2 ≤ length (now caption)) × (n ≤ i) × (n ≤ length (now block)) ⌝ }
+    ensures { λ _. ⌜ ((l : ℕ) → l < n → getD (now (block .exit)) l 0 ≡ Object·symbol 2 (now (caption .entry)) (i - 1 - l) ⊕ Code·previous (Object·symbol 2 (now (caption .entry))) (i - 1 - l)) ⌝ }
+{
+    let mut l: usize = 0;
+    while l < n {
+        let here = i - 1 - l;
+        block[l] = field::sum(symbol_at(caption, here), previous(caption, here));
+        l += 1;
     }
 }
 
 // Symbol i - 1 of a code, where symbol -1 is 0.
-fn previous(caption: &[u8], i: Symbols) -> u16
-    ensures { λ r. ⌜ r ≡ Code·previous (Object·symbol 2 (now (caption .entry))) (i .count) ⌝ }
+fn previous(caption: &[u8], i: usize) -> u16
+    requires { ⌜ i * 2 ≤ length (now caption) ⌝ }
+    ensures { λ r. ⌜ r ≡ Code·previous (Object·symbol 2 (now (caption .entry))) i ⌝ }
 {
-    if i.count == 0 {
+    if i == 0 {
         return 0;
     }
-    signature::symbol(caption, Symbols { count: i.count - 1 })
+    symbol_at(caption, i - 1)
+}
+
+// The n symbols below place i, downward.
+fn put_symbols(block: &[u16], i: usize, n: usize, output: &mut [u8])
+    requires { ⌜ (i * 2 ≤ length (now output)) × (n ≤ i) × (n ≤ length (now block)) ⌝ }
+    ensures { λ _. ⌜ ((s : ℕ → ℕ) → ((l : ℕ) → l < n → getD (now (block .entry)) l 0 ≡ s (i - 1 - l)) → written (now (output .exit)) 0 (bytes (i - n) s) ≡ written (now (output .entry)) 0 (bytes i s)) ⌝ }
+{
+    let mut l: usize = 0;
+    while l < n {
+        signature::put_two_bytes(block[l] as usize, output, (i - 1 - l) * 2);
+        l += 1;
+    }
 }
 
 // The places where a plain pattern hits in a code, written to the start of the list, upward.
@@ -275,19 +304,19 @@ fn places(caption: &[u8], pattern: &[u8]) -> usize
 
 // One comparison a place: what it is compared with is the pattern's signature, doubled at each place. A pattern with no place is not signed.
 fn find(caption: &[u8], pattern: &[u8], list: &mut [usize]) -> Listed
-    requires { ⌜ placesFor (now caption) (now pattern) ≤ length (now list) ⌝ }
+    requires { ⌜ (length (now caption) % 2 ≡ 0) × (placesFor (now caption) (now pattern) ≤ length (now list)) ⌝ }
     ensures { λ r. ⌜ searchedOf r (now (list .exit)) ≡ searchUnless Allowed (found 0 (now (caption .entry)) (now (pattern .entry))) (now (list .entry)) ⌝ }
 {
     let count = places(caption, pattern);
     if count == 0 {
         return Listed::Numbers(0);
     }
-    let l = signature::symbols_in(pattern);
+    let l = signature::symbols_in(pattern).count;
     let mut weighed = signature::own(1, pattern).s1;
     let mut found: usize = 0;
     let mut i: usize = 0;
     while i < count {
-        if hits(caption, l, weighed, Symbols { count: i }) {
+        if hits(caption, l, weighed, i) {
             list[found] = i;
             found += 1;
         }
@@ -298,12 +327,9 @@ fn find(caption: &[u8], pattern: &[u8], list: &mut [usize]) -> Listed
 }
 
 // Whether the l symbols at place i, weighted as they are in the code, add up to this.
-fn hits(caption: &[u8], l: Symbols, weighed: u16, i: Symbols) -> bool
-    requires { ⌜ i .count + l .count < 2 ^ 64 ⌝ }
-    ensures { λ r. ⌜ r ≡ eqb (Code·previous (Object·symbol 2 (now (caption .entry))) (i .count + l .count) ⊕ Code·previous (Object·symbol 2 (now (caption .entry))) (i .count)) weighed ⌝ }
+fn hits(caption: &[u8], l: usize, weighed: u16, i: usize) -> bool
+    requires { ⌜ (i + l) * 2 ≤ length (now caption) ⌝ }
+    ensures { λ r. ⌜ r ≡ eqb (Code·previous (Object·symbol 2 (now (caption .entry))) (i + l) ⊕ Code·previous (Object·symbol 2 (now (caption .entry))) i) weighed ⌝ }
 {
-    let end = Symbols {
-        count: i.count + l.count,
-    };
-    field::sum(previous(caption, end), previous(caption, i)) == weighed
+    field::sum(previous(caption, i + l), previous(caption, i)) == weighed
 }

@@ -3,7 +3,7 @@
 use mathlib.Core.Path.{sym, _∙_}
 use borrow.Author.Needs.{needs}
 use Rattle.caption.specs.Recoding.{decoded}
-use Rattle.caption.proofs.Allowing.{recodable, recodable-room, recoded, not-recoded}
+use Rattle.caption.proofs.Allowing.{recodable, recoded, not-recoded}
 use Rattle.caption.proofs.decode.Statement.{statement}
 use Rattle.caption.proofs.decode.Tie as tie
 
@@ -20,7 +20,8 @@ put-plain-requires : tie.Need-put-plain-requires
 put-plain-requires c κs =
     let recode-verdict : _ = c .before .before .before .recode-verdict in
     let args : _ = c .before .before .before .before .before .before .before .args in
-    recodable-room (args .caption .now) (args .output .now) (recodable (args .caption .now) (args .output .now) (sym (recode-verdict .ensures) ∙ c .before .enum-told .given .1))
+    let allowed : _ = recodable (args .caption .now) (args .output .now) (sym (recode-verdict .ensures) ∙ c .before .enum-told .given .1) in
+    (allowed .even, allowed .fits)
 
 same-length : tie.Need-same-length
 same-length c = search needs

@@ -26,6 +26,7 @@ use Rattle.signature.proofs.Octets.{GF16-symbol}
 use Rattle.caption.specs.Codes.{previous, weight, hit, places}
 use Rattle.caption.specs.Searches.{searchedOf, searchUnless, placesFor, found}
 use Rattle.caption.proofs.Codes.{weighed-turn}
+use Rattle.caption.proofs.Allowing.{place-inside}
 use Rattle.caption.proofs.find.Statement.{statement}
 use Rattle.caption.proofs.find.Tie as tie
 
@@ -85,11 +86,20 @@ loop-holds c =
     )
 
 hits-requires : tie.Need-hits-requires Inv-loop μ-loop
-hits-requires c κs = omega arith
+hits-requires c κs =
+    let args : _ = c .before .before .before .before .before .before .before .before .before .args in
+    let counted : _ = c .before .before .before .before .before .places in
+    let below : c .before .loop .i < placesFor (args .caption .now) (args .pattern .now) = omega (arith, counted .ensures) in
+    omega (
+      arith,
+      place-inside (symbols 2 (args .caption .now)) (symbols 2 (args .pattern .now)) (c .before .loop .i) below,
+      c .before .before .before .symbols-in .ensures,
+      c .before .before .before .before .before .before .before .before .before .pre .0,
+    )
 
 mul-list : tie.Need-mul-list Inv-loop μ-loop
 mul-list c =
-    let required : _ = c .before .before .before .before .before .before .before .before .before .before .before .pre in
+    let required : _ = c .before .before .before .before .before .before .before .before .before .before .before .pre .1 in
     let counted : _ = c .before .before .before .before .before .before .before .places in
     let at : _ = c .before .before .before .loop in
     record { fits = omega (arith, noted-below (at .inv .2), at .inv .0, counted .ensures, required) }
@@ -97,7 +107,7 @@ mul-list c =
 slice-write-list : tie.Need-slice-write-list Inv-loop μ-loop
 slice-write-list c =
     let args : _ = c .before .before .before .before .before .before .before .before .before .before .before .args in
-    let required : _ = c .before .before .before .before .before .before .before .before .before .before .before .pre in
+    let required : _ = c .before .before .before .before .before .before .before .before .before .before .before .pre .1 in
     let counted : _ = c .before .before .before .before .before .before .before .places in
     let at : _ = c .before .before .before .loop in
     let inside : at .i < length (args .list .now) = omega (arith, counted .ensures, required) in
@@ -105,7 +115,7 @@ slice-write-list c =
 
 add-found : tie.Need-add-found Inv-loop μ-loop
 add-found c =
-    let required : _ = c .before .before .before .before .before .before .before .before .before .before .before .pre in
+    let required : _ = c .before .before .before .before .before .before .before .before .before .before .before .pre .1 in
     let counted : _ = c .before .before .before .before .before .before .before .places in
     let at : _ = c .before .before .before .loop in
     record { fits = omega (arith, noted-below (at .inv .2), at .inv .0, counted .ensures, required) }
@@ -115,7 +125,7 @@ double-requires c κs = tt
 
 add-i : tie.Need-add-i Inv-loop μ-loop
 add-i c =
-    let required : _ = c .before .before .before .before .before .before .before .before .before .before .before .before .pre in
+    let required : _ = c .before .before .before .before .before .before .before .before .before .before .before .before .pre .1 in
     let counted : _ = c .before .before .before .before .before .before .before .before .places in
     record { fits = omega (arith, c .before .before .before .before .loop .inv .0, counted .ensures, required) }
 
@@ -125,7 +135,7 @@ loop-less c = omega (arith, c .before .before .before .before .before .before .b
 loop-again : tie.Need-loop-again Inv-loop μ-loop
 unfolding hitting hit
 loop-again c =
-    let required : _ = c .before .before .before .before .before .before .before .before .before .before .before .before .pre in
+    let required : _ = c .before .before .before .before .before .before .before .before .before .before .before .before .pre .1 in
     let shared-slice-known2 : _ = c .before .before .before .before .before .before .before .before .before .before .shared-slice-known2 in
     let counted : _ = c .before .before .before .before .before .before .before .before .places in
     let symbols-in : _ = c .before .before .before .before .before .before .symbols-in in
@@ -150,7 +160,7 @@ loop-again c =
 
 same-length : tie.Need-same-length Inv-loop μ-loop
 same-length c =
-    let required : _ = c .before .before .before .before .before .before .before .before .before .pre in
+    let required : _ = c .before .before .before .before .before .before .before .before .before .pre .1 in
     noted-length (c .before .loop .inv .2) (omega (arith, c .before .loop .inv .0, required))
 
 returns-2 : tie.Need-returns-2 Inv-loop μ-loop

@@ -8,8 +8,8 @@ use Rattle.field.specs.Field.{_⊕_}
 use Rattle.caption.proofs.hits.Statement.{statement}
 use Rattle.caption.proofs.hits.Tie as tie
 
-add-t6 : tie.Need-add-t6
-add-t6 c = search needs
+add-previous : tie.Need-add-previous
+add-previous c = search needs
 
 previous-requires : tie.Need-previous-requires
 previous-requires c κs = search needs
@@ -21,9 +21,8 @@ sum-requires : tie.Need-sum-requires
 sum-requires c κs = search needs
 
 returns : tie.Need-returns
-returns c =
-    let args : _ = c .before .before .before .before .before .before .args in
-    ap (λ (x : ℕ). eqb x (args .weighed)) (c .sum .ensures ∙ ap₂ _⊕_ (c .before .before .previous .ensures) (c .before .previous2 .ensures))
+returns c = ap (λ (x : ℕ). eqb x (c .before .before .before .before .args .weighed)) (c .sum .ensures ∙ ap₂ _⊕_ (c .before .before .previous .ensures) (c .before .previous2 .ensures))
 
 pub hits-spec : {M : Type 1} → statement M
-hits-spec = tie.close (tie.spec add-t6 previous-requires previous-requires-2 sum-requires returns)
+hits-spec =
+    tie.close (tie.spec add-previous previous-requires previous-requires-2 sum-requires returns)

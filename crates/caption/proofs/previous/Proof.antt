@@ -12,17 +12,17 @@ use Rattle.caption.proofs.previous.Tie as tie
 returns : tie.Need-returns
 returns c = search needs
 
-sub-t4 : tie.Need-sub-t4
-sub-t4 c = search needs
+sub-symbol-at : tie.Need-sub-symbol-at
+sub-symbol-at c = search needs
 
-symbol-requires : tie.Need-symbol-requires
-symbol-requires c κs = search needs
+symbol-at-requires : tie.Need-symbol-at-requires
+symbol-at-requires c κs = search needs
 
 returns-2 : tie.Need-returns-2
 returns-2 c =
-    let args : _ = c .before .before .before .before .before .args in
-    let up : suc (args .i .count - 1) ≡ args .i .count = omega arith in
-    c .symbol .ensures ∙ ap (previous (symbol 2 (args .caption .now))) up
+    let args : _ = c .before .before .before .args in
+    let up : suc (args .i - 1) ≡ args .i = omega arith in
+    c .symbol-at .ensures ∙ ap (previous (symbol 2 (args .caption .now))) up
 
 pub previous-spec : {M : Type 1} → statement M
-previous-spec = tie.close (tie.spec returns sub-t4 symbol-requires returns-2)
+previous-spec = tie.close (tie.spec returns sub-symbol-at symbol-at-requires returns-2)

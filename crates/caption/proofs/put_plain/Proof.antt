@@ -1,23 +1,23 @@
--- `caption::put_plain` meets its contract. The invariant: what undoes the weight is that of symbol i, and the symbols before it, written over what is there, give the whole.
+-- `caption::put_plain` meets its contract. The invariant: what undoes the weights is that of the places below i, and the symbols before place i, written over what is there, give the whole.
 -- Assumes nothing.
-use mathlib.Core.List.{List}
 use mathlib.Core.Path.{_≡_, refl, sym, ap, ap₂, _∙_}
-use Prim.Native.Nat.{ℕ, suc, _-_, _*_, _%_, _^_, _≤_, _<_}
-use native.Mathlib.Omega.{arith}
+use mathlib.Core.List.{List}
+use Prim.Native.Nat.{ℕ, suc, _+_, _-_, _%_, _≤_, _<_, min}
 use native.Mathlib.Nat.{add-zero}
-use lib.ListN.{length}
+use native.Mathlib.Omega.{arith}
+use lib.ListN.{length, getD}
 use borrow.Author.Needs.{needs}
 use Rattle.units.specs.Writing.{written}
-use Rattle.field.specs.Field.{GF16, _⊕_, product, doubled, power, α}
-use Rattle.field.proofs.Powers.{α-power}
-use Rattle.field.proofs.Products.{one-product}
 use Rattle.field.proofs.Instances.{GF16-passes, GF16-formed}
-use Rattle.signature.specs.Objects.{symbol, symbols, lowBytes}
-use Rattle.caption.specs.Recoding.{bytes, decoded}
-use Rattle.caption.specs.Codes.{previous, plain}
+use Rattle.field.proofs.Products.{one-product}
+use Rattle.field.proofs.Powers.{α-power}
+use Rattle.field.specs.Field.{GF16, product, doubled, power, α}
+use Rattle.signature.specs.Objects.{symbol, symbols}
 use Rattle.caption.specs.Codes as Codes
-use Rattle.caption.proofs.Rows.{symbol-put, row-none, row-down}
-use Rattle.caption.proofs.Codes.{unweight-turn}
+use Rattle.caption.specs.Codes.{plain}
+use Rattle.caption.specs.Recoding.{bytes, decoded}
+use Rattle.caption.proofs.Codes.{unweight-turn, unweight-on}
+use Rattle.caption.proofs.Rows.{row-none}
 use Rattle.caption.proofs.put_plain.Statement.{statement}
 use Rattle.caption.proofs.put_plain.Tie as tie
 
@@ -26,12 +26,13 @@ plainly : List ℕ → ℕ → ℕ
 plainly caption = plain GF16 0 (symbol 2 caption)
 
 abbrev Inv-loop : tie.InvT-loop
-Inv-loop caption output₀ unweight₀ i₀ output unweight i =
-    (i ≤ symbols 2 caption) × (unweight ≡ Codes.unweight GF16 0 i) × (length output ≡ length output₀)
+Inv-loop caption output₀ unweights₀ block₀ i₀ output unweights block i =
+    (i ≤ symbols 2 caption) × (length unweights ≡ 16) × (length block ≡ 16) × (length output ≡ length output₀)
+    × ((l : ℕ) → l < 16 → l < i → getD unweights l 0 ≡ Codes.unweight GF16 0 (i - 1 - l))
     × (written output 0 (bytes i (plainly caption)) ≡ written output₀ 0 (bytes (symbols 2 caption) (plainly caption)))
 
 abbrev μ-loop : tie.MeasureT-loop
-μ-loop caption output₀ unweight₀ i₀ output unweight i = i
+μ-loop caption output₀ unweights₀ block₀ i₀ output unweights block i = i
 
 symbols-in-requires : tie.Need-symbols-in-requires Inv-loop μ-loop
 symbols-in-requires c κs = tt
@@ -42,94 +43,105 @@ exponent-back-requires c κs = tt
 times-power-requires : tie.Need-times-power-requires Inv-loop μ-loop
 times-power-requires c κs = tt
 
-loop-holds : tie.Need-loop-holds Inv-loop μ-loop
-loop-holds c =
-    let symbols-in : _ = c .before .before .symbols-in in
-    let args : _ = c .before .before .before .before .before .args in
-    let all : symbols-in .result .count ≡ symbols 2 (args .caption .now) = symbols-in .ensures in (
-      omega arith,
-      c .times-power .ensures
-          ∙ ap (λ (k : ℕ). product GF16 1 (power GF16 α k)) (c .before .exponent-back .ensures)
-          ∙ one-product GF16 GF16-formed (α-power GF16 GF16-formed _)
-          ∙ ap (λ (k : ℕ). power GF16 α (65535 - k % 65535)) (sym (add-zero (symbols-in .result .count))),
-      refl,
-      ap (λ (k : ℕ). written (args .output .now) 0 (bytes k (plainly (args .caption .now)))) all,
-    )
-
-sub-i : tie.Need-sub-i Inv-loop μ-loop
-sub-i c = omega arith
-
 double-requires : tie.Need-double-requires Inv-loop μ-loop
 double-requires c κs = tt
 
-symbol-requires : tie.Need-symbol-requires Inv-loop μ-loop
-symbol-requires c κs = tt
+slice-aggregate-put-weights : tie.Need-slice-aggregate-put-weights Inv-loop μ-loop
+slice-aggregate-put-weights c = search needs
 
-previous-requires : tie.Need-previous-requires Inv-loop μ-loop
-previous-requires c κs = tt
+put-weights-requires : tie.Need-put-weights-requires Inv-loop μ-loop
+put-weights-requires c κs = tt
 
-sum-requires : tie.Need-sum-requires Inv-loop μ-loop
-sum-requires c κs = tt
+loop-holds : tie.Need-loop-holds Inv-loop μ-loop
+loop-holds c =
+    let args : _ = c .before .before .before .before .before .before .before .before .before .args in
+    let count : ℕ = c .before .before .before .before .before .before .symbols-in .result .count in
+    let all : count ≡ symbols 2 (args .caption .now) = c .before .before .before .before .before .before .symbols-in .ensures in
+    let top : c .before .before .before .before .times-power .result ≡ Codes.unweight GF16 0 count =
+    c .before .before .before .before .times-power .ensures
+    ∙ ap (λ (k : ℕ). product GF16 1 (power GF16 α k)) (c .before .before .before .before .before .exponent-back .ensures)
+    ∙ one-product GF16 GF16-formed (α-power GF16 GF16-formed _)
+    ∙ ap (λ (k : ℕ). power GF16 α (65535 - k % 65535)) (sym (add-zero count)) in (
+      omega arith,
+      c .before .put-weights .kept .1 .0,
+      refl,
+      refl,
+      λ l h inside.
+          let up : count ≡ suc (count - 1 - l + l) = omega (arith, inside) in
+          c .before .put-weights .ensures l h
+          ∙ ap (λ (x : ℕ). product GF16 x (Codes.weight GF16 0 l))
+          (c .before .before .before .double .ensures ∙ ap (doubled GF16) (top ∙ ap (Codes.unweight GF16 0) up) ∙ unweight-turn GF16 0 GF16-passes (count - 1 - l + l))
+          ∙ unweight-on GF16 0 GF16-passes (count - 1 - l) l,
+      ap (λ (k : ℕ). written (args .output .now) 0 (bytes k (plainly (args .caption .now)))) all,
+    )
 
-product-requires : tie.Need-product-requires Inv-loop μ-loop
-product-requires c κs = tt
+block-of-requires : tie.Need-block-of-requires Inv-loop μ-loop
+block-of-requires c κs = tt
 
-cast-put-two-bytes : tie.Need-cast-put-two-bytes Inv-loop μ-loop
-cast-put-two-bytes c = search needs
+slice-aggregate-read-changes : tie.Need-slice-aggregate-read-changes Inv-loop μ-loop
+slice-aggregate-read-changes c = search needs
 
-bytes-of-requires : tie.Need-bytes-of-requires Inv-loop μ-loop
-bytes-of-requires c κs = tt
+read-changes-requires : tie.Need-read-changes-requires Inv-loop μ-loop
+read-changes-requires c κs = search needs
 
-put-two-bytes-requires : tie.Need-put-two-bytes-requires Inv-loop μ-loop
-put-two-bytes-requires c κs = tt
+slice-aggregate-weigh : tie.Need-slice-aggregate-weigh Inv-loop μ-loop
+slice-aggregate-weigh c = search needs
+
+slice-aggregate-weigh-2 : tie.Need-slice-aggregate-weigh-2 Inv-loop μ-loop
+slice-aggregate-weigh-2 c = search needs
+
+weigh-requires : tie.Need-weigh-requires Inv-loop μ-loop
+weigh-requires c κs = search needs
+
+slice-aggregate-put-symbols : tie.Need-slice-aggregate-put-symbols Inv-loop μ-loop
+slice-aggregate-put-symbols c = search needs
+
+put-symbols-requires : tie.Need-put-symbols-requires Inv-loop μ-loop
+put-symbols-requires c κs = search needs
+
+sub-i : tie.Need-sub-i Inv-loop μ-loop
+sub-i c = search needs
 
 loop-less : tie.Need-loop-less Inv-loop μ-loop
-loop-less c = omega arith
+loop-less c = search needs
 
 loop-again : tie.Need-loop-again Inv-loop μ-loop
 unfolding plainly plain
 loop-again c =
-    let fitting : length (c .before .before .before .before .before .before .before .before .before .before .before .loop .output) < 2 ^ 64 = omega arith in
-    let required : _ = c .before .before .before .before .before .before .before .before .before .before .before .before .before .before .before .before .before .pre in
-    let double : _ = c .before .before .before .before .before .before .before .before .before .double in
-    let symbol : _ = c .before .before .before .before .before .before .before .before .symbol in
-    let previous : _ = c .before .before .before .before .before .before .before .previous in
-    let sum : _ = c .before .before .before .before .before .before .sum in
-    let product-here : _ = c .before .before .before .before .before .product in
-    let bytes-of : _ = c .before .before .before .bytes-of in
-    let put-two-bytes : _ = c .before .before .put-two-bytes in
-    let args : _ = c .before .before .before .before .before .before .before .before .before .before .before .before .before .before .before .before .before .args in
-    let at : _ = c .before .before .before .before .before .before .before .before .before .before .before .loop in
+    let at : _ = c .before .before .before .before .before .before .before .before .before .before .before .before .before .before .before .loop in
+    let args : _ = c .before .before .before .before .before .before .before .before .before .before .before .before .before .before .before .before .before .before .before .before .before .before .before .before .before .args in
     let caption : List ℕ = args .caption .now in
-    let here : ℕ = at .i - 1 in
-    let up : at .i ≡ suc here = omega arith in
-    let weight : double .result ≡ Codes.unweight GF16 0 here =
-    double .ensures ∙ ap (doubled GF16) (at .inv .1 ∙ ap (Codes.unweight GF16 0) up) ∙ unweight-turn GF16 0 GF16-passes here in
-    let is : product-here .result ≡ plainly caption here =
-    product-here .ensures ∙ ap₂ (product GF16) (sum .ensures ∙ ap₂ _⊕_ (symbol .ensures) (previous .ensures)) weight in
-    let fits : suc here * 2 ≤ length (at .output) = omega (arith, at .inv .0, at .inv .2, required) in
-    let put : put-two-bytes .last .1 .0 ≡ written (at .output) (here * 2) (lowBytes 2 (product-here .result)) =
-    put-two-bytes .ensures ∙ symbol-put (product-here .result) (at .output) here (bytes-of .result .count) (bytes-of .ensures) fits fitting in (
-      omega arith,
-      weight,
-      put-two-bytes .kept .1 .0 ∙ at .inv .2,
-      ap (λ (l : List ℕ). written l 0 (bytes here (plainly caption))) put
-          ∙ row-down (plainly caption) (at .output) here fits is
-          ∙ ap (λ (k : ℕ). written (at .output) 0 (bytes k (plainly caption))) (sym up)
-          ∙ at .inv .3,
+    let n : ℕ = c .before .before .before .before .before .before .before .before .before .before .before .before .before .block-of .result in
+    let few : n ≡ min (at .i) 16 = c .before .before .before .before .before .before .before .before .before .before .before .before .before .block-of .ensures in
+    let each : (l : ℕ) → l < n → getD (c .before .before .before .before .before .before .before .weigh .last .0) l 0 ≡ plainly caption (at .i - 1 - l) =
+    λ l h.
+    let below : l < 16 = omega (arith, h, few) in
+    c .before .before .before .before .before .before .before .weigh .ensures .0 l below ∙ ap₂ (product GF16) (c .before .before .before .before .before .before .before .before .before .before .before .read-changes .ensures l h) (at .inv .4 l below (omega (arith, h, few))) in (
+      omega (arith, few),
+      c .before .before .before .before .before .before .before .weigh .kept .1 .0 ∙ at .inv .1,
+      c .before .before .before .before .before .before .before .weigh .kept .0 ∙ c .before .before .before .before .before .before .before .before .before .before .before .read-changes .kept .1 .1 .1 .0 ∙ at .inv .2,
+      c .before .before .put-symbols .kept .1 .1 .1 .0 ∙ at .inv .3,
+      λ l h inside.
+          let below : l < at .i = omega (arith, inside) in
+          let down : at .i - 1 - l ≡ at .i - n - 1 - l + 16 = omega (arith, few, inside) in
+          c .before .before .before .before .before .before .before .weigh .ensures .1 l h
+          ∙ ap (λ (x : ℕ). product GF16 x (Codes.weight GF16 0 16)) (at .inv .4 l h below ∙ ap (Codes.unweight GF16 0) down)
+          ∙ unweight-on GF16 0 GF16-passes (at .i - n - 1 - l) 16,
+      c .before .before .put-symbols .ensures (plainly caption) each ∙ at .inv .5,
     )
 
 same-length : tie.Need-same-length Inv-loop μ-loop
-same-length c = c .before .loop .inv .2
+same-length c = c .before .loop .inv .3
 
 returns : tie.Need-returns Inv-loop μ-loop
 unfolding plainly decoded
 returns c =
-    let args : _ = c .before .before .before .before .before .before .before .args in
-    let none : c .before .loop .i ≡ 0 = omega arith in
-    sym (row-none (plainly (args .caption .now)) (c .before .loop .output))
-    ∙ ap (λ (k : ℕ). written (c .before .loop .output) 0 (bytes k (plainly (args .caption .now)))) (sym none)
-    ∙ c .before .loop .inv .3
+    let args : _ = c .before .before .before .before .before .before .before .before .before .before .before .args in
+    let at : _ = c .before .loop in
+    let none : at .i ≡ 0 = omega arith in
+    sym (row-none (plainly (args .caption .now)) (at .output))
+    ∙ ap (λ (k : ℕ). written (at .output) 0 (bytes k (plainly (args .caption .now)))) (sym none)
+    ∙ at .inv .5
 
 pub put-plain-spec : {M : Type 1} → statement M
 put-plain-spec =
@@ -140,16 +152,19 @@ put-plain-spec =
     symbols-in-requires
     exponent-back-requires
     times-power-requires
-    loop-holds
-    sub-i
     double-requires
-    symbol-requires
-    previous-requires
-    sum-requires
-    product-requires
-    cast-put-two-bytes
-    bytes-of-requires
-    put-two-bytes-requires
+    slice-aggregate-put-weights
+    put-weights-requires
+    loop-holds
+    block-of-requires
+    slice-aggregate-read-changes
+    read-changes-requires
+    slice-aggregate-weigh
+    slice-aggregate-weigh-2
+    weigh-requires
+    slice-aggregate-put-symbols
+    put-symbols-requires
+    sub-i
     loop-less
     loop-again
     same-length

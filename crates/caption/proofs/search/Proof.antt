@@ -21,7 +21,8 @@ find-requires : tie.Need-find-requires
 find-requires c κs =
     let search-verdict : _ = c .before .before .before .search-verdict in
     let args : _ = c .before .before .before .before .before .before .before .before .args in
-    searchable (args .caption .now) (args .pattern .now) (args .list .now) (sym (search-verdict .ensures) ∙ c .before .enum-told .given .1) .fits
+    let allowed : _ = searchable (args .caption .now) (args .pattern .now) (args .list .now) (sym (search-verdict .ensures) ∙ c .before .enum-told .given .1) in
+    (allowed .even, allowed .fits)
 
 same-length : tie.Need-same-length
 same-length c = search needs
