@@ -1,7 +1,8 @@
 -- The laws of the code, and what is promised of encode, decode and search.
 pub mod Codes
 pub mod Rows
-pub mod Blocks
+pub mod Turns
+pub mod Moving
 pub mod Fields
 pub mod Finding
 pub mod Allowing

@@ -1,17 +1,20 @@
 // Caption fields in the cumulative code: a field encoded, decoded, and searched for a plain pattern as it stands, without decoding.
+mod blocks;
+
+ghost use mathlib.Core.Bool.{Bool, false};
 ghost use mathlib.Core.List.{List};
 ghost use mathlib.Core.Path.{_≡_};
-ghost use Prim.Native.Nat.{ℕ, _+_, _-_, _*_, _%_, _^_, _≤_, _<_, min};
+ghost use Prim.Native.Nat.{ℕ, _+_, _-_, _*_, _%_, _≤_, _<_};
 ghost use lib.Dec.{eqb};
 ghost use lib.ListN.{length, getD};
 ghost use Rattle.units.specs.Filling.{outcomeOf};
 ghost use Rattle.units.specs.Refusals.{first};
 ghost use Rattle.units.specs.Writing.{written};
 ghost use Rattle.units.specs.declared.Verdict.the-variants.{Allowed, Refused};
-ghost use Rattle.field.specs.Field.{GF16, _⊕_};
-ghost use Rattle.field.specs.Field.{product as Field·product};
+ghost use Rattle.units.proofs.Noting.{Noted};
+ghost use Rattle.field.specs.Field.{_⊕_};
 ghost use Rattle.signature.specs.Objects.{symbol as Object·symbol, symbols as Object·symbols};
-ghost use Rattle.caption.specs.Codes.{previous as Code·previous, weight as Code·weight};
+ghost use Rattle.caption.specs.Codes.{previous as Code·previous};
 ghost use Rattle.caption.specs.Recoding.{bytes, encoded, decoded, tooLong, recodeTests, encoding, decoding};
 ghost use Rattle.caption.specs.Searches.{found, placesFor, searchedOf, searchUnless, searchTests, searching};
 use units::Bytes;
@@ -86,36 +89,16 @@ fn put_code(caption: &[u8], output: &mut [u8])
 {
     let count = signature::symbols_in(caption).count;
     let mut weights = [0u16; 16];
-    put_weights(1, &mut weights);
+    blocks::put_weights(1, &mut weights);
     let mut block = [0u16; 16];
     let mut sum: u16 = 0;
     let mut i: usize = 0;
     while i < count {
-        let n = block_of(count - i);
+        let n = blocks::block_of(count - i);
         read_symbols(caption, i, n, &mut block);
-        weigh(&mut block, &mut weights);
+        blocks::weigh(&mut block, &mut weights);
         sum = put_sums(&block, sum, i, n, output);
         i += n;
-    }
-}
-
-// Symbols of the next block, where there are so many left.
-fn block_of(left: usize) -> usize
-    ensures { λ r. ⌜ r ≡ min left 16 ⌝ }
-{
-    if left < 16 { left } else { 16 }
-}
-
-// The weights of a block, each the double of the one before.
-fn put_weights(first: u16, weights: &mut [u16])
-    ensures { λ _. ⌜ ((l : ℕ) → l < length (now (weights .entry)) → getD (now (weights .exit)) l 0 ≡ Field·product GF16 first (Code·weight GF16 0 l)) ⌝ }
-{
-    let mut weight = first;
-    let mut l: usize = 0;
-    while l < weights.len() {
-        weights[l] = weight;
-        weight = field::double(weight);
-        l += 1;
     }
 }
 
@@ -137,48 +120,6 @@ fn symbol_at(caption: &[u8], i: usize) -> u16
     ensures { λ r. ⌜ r ≡ Object·symbol 2 (now (caption .entry)) i ⌝ }
 {
     caption[i * 2] as u16 + caption[i * 2 + 1] as u16 * 256
-}
-
-// Each symbol of a block times its weight. The weights become those of 16 symbols on.
-fn weigh(block: &mut [u16], weights: &mut [u16])
-    requires { ⌜ (length (now block) ≡ 16) × (length (now weights) ≡ 16) ⌝ }
-    ensures product { λ _. ⌜ ((l : ℕ) → l < 16 → getD (now (block .exit)) l 0 ≡ Field·product GF16 (getD (now (block .entry)) l 0) (getD (now (weights .entry)) l 0)) ⌝ }
-    ensures weight { λ _. ⌜ ((l : ℕ) → l < 16 → getD (now (weights .exit)) l 0 ≡ Field·product GF16 (getD (now (weights .entry)) l 0) (Code·weight GF16 0 16)) ⌝ }
-{
-    let mut l: usize = 0;
-    while l < 16 {
-        let w = weighed(block[l], weights[l]);
-        block[l] = w.product;
-        weights[l] = w.weight;
-        l += 1;
-    }
-}
-
-// A symbol times its weight, and the weight 16 symbols on.
-struct Weighing {
-    product: u16,
-    weight: u16,
-}
-
-// A digit of the symbol a turn, and no branch: so many symbols are weighed at once.
-fn weighed(symbol: u16, weight: u16) -> Weighing
-    ensures product { λ r. ⌜ r .product ≡ Field·product GF16 symbol weight ⌝ }
-    ensures weight { λ r. ⌜ r .weight ≡ Field·product GF16 weight (Code·weight GF16 0 16) ⌝ }
-{
-    let mut r: u16 = 0;
-    let mut x = weight;
-    let mut y = symbol;
-    let mut turn: usize = 0;
-    while turn < 16 {
-        r = field::sum(y % 2 * x, r);
-        x = field::double(x);
-        y = y / 2;
-        turn += 1;
-    }
-    Weighing {
-        product: r,
-        weight: x,
-    }
 }
 
 // The code from place i on, by the n weighed symbols that each add to the sum. Its last symbol is the answer.
@@ -203,16 +144,16 @@ fn put_plain(caption: &[u8], output: &mut [u8])
 {
     let all = signature::symbols_in(caption);
     let mut unweights = [0u16; 16];
-    put_weights(
+    blocks::put_weights(
         field::double(field::times_power(1, units::exponent_back(all))),
         &mut unweights,
     );
     let mut block = [0u16; 16];
     let mut i = all.count;
     while i > 0 {
-        let n = block_of(i);
+        let n = blocks::block_of(i);
         read_changes(caption, i, n, &mut block);
-        weigh(&mut block, &mut unweights);
+        blocks::weigh(&mut block, &mut unweights);
         put_symbols(&block, i, n, output);
         i -= n;
     }
@@ -302,7 +243,7 @@ fn places(caption: &[u8], pattern: &[u8]) -> usize
     m - l + 1
 }
 
-// One comparison a place: what it is compared with is the pattern's signature, doubled at each place. A pattern with no place is not signed.
+// One comparison a place: what it is compared with is the pattern's signature, weighted as symbols are. A pattern with no place is not signed.
 fn find(caption: &[u8], pattern: &[u8], list: &mut [usize]) -> Listed
     requires { ⌜ (length (now caption) % 2 ≡ 0) × (placesFor (now caption) (now pattern) ≤ length (now list)) ⌝ }
     ensures { λ r. ⌜ searchedOf r (now (list .exit)) ≡ searchUnless Allowed (found 0 (now (caption .entry)) (now (pattern .entry))) (now (list .entry)) ⌝ }
@@ -312,18 +253,68 @@ fn find(caption: &[u8], pattern: &[u8], list: &mut [usize]) -> Listed
         return Listed::Numbers(0);
     }
     let l = signature::symbols_in(pattern).count;
-    let mut weighed = signature::own(1, pattern).s1;
+    let mut weighed = [0u16; 16];
+    blocks::put_weights(signature::own(1, pattern).s1, &mut weighed);
     let mut found: usize = 0;
     let mut i: usize = 0;
     while i < count {
-        if hits(caption, l, weighed, i) {
-            list[found] = i;
-            found += 1;
+        let n = blocks::block_of(count - i);
+        if may_hit(caption, l, &weighed, i, n) {
+            found = note(caption, l, &weighed, i, n, list, found);
         }
-        weighed = field::double(weighed);
-        i += 1;
+        blocks::move_on(&mut weighed);
+        i += n;
     }
     Listed::Numbers(found)
+}
+
+// Whether some of the n places from i on may be hit. Before place 0 there is no symbol to read, so that all may be.
+fn may_hit(caption: &[u8], l: usize, weighed: &[u16], i: usize, n: usize) -> bool
+    requires { ⌜ ((i + n + l) * 2 ≤ length (now caption) + 2) × (n ≤ length (now weighed)) ⌝ }
+    ensures { λ r. ⌜ (r ≡ false → (k : ℕ) → k < n → eqb (Code·previous (Object·symbol 2 (now (caption .entry))) (i + k + l) ⊕ Code·previous (Object·symbol 2 (now (caption .entry))) (i + k)) (getD (now (weighed .entry)) k 0) ≡ false) ⌝ }
+{
+    if i == 0 {
+        return true;
+    }
+    let mut some = false;
+    let mut k: usize = 0;
+    while k < n {
+        if field::sum(
+            symbol_at(caption, i + k + l - 1),
+            symbol_at(caption, i + k - 1),
+        )
+            == weighed[k]
+        {
+            some = true;
+        }
+        k += 1;
+    }
+    some
+}
+
+// The hits among the n places from i on, listed after those before them.
+fn note(
+    caption: &[u8],
+    l: usize,
+    weighed: &[u16],
+    i: usize,
+    n: usize,
+    list: &mut [usize],
+    before: usize,
+) -> usize
+    requires { ⌜ ((i + n + l) * 2 ≤ length (now caption) + 2) × (n ≤ length (now weighed)) × (i + n ≤ length (now list)) × (before ≤ i) ⌝ }
+    ensures { λ r. ⌜ ((test : ℕ → Bool) (old : List ℕ) → length old ≡ length (now (list .entry)) → ((k : ℕ) → k < n → test (i + k) ≡ eqb (Code·previous (Object·symbol 2 (now (caption .entry))) (i + k + l) ⊕ Code·previous (Object·symbol 2 (now (caption .entry))) (i + k)) (getD (now (weighed .entry)) k 0)) → Noted test old i (now (list .entry)) before → Noted test old (i + n) (now (list .exit)) r) ⌝ }
+{
+    let mut found = before;
+    let mut k: usize = 0;
+    while k < n {
+        if hits(caption, l, weighed[k], i + k) {
+            list[found] = i + k;
+            found += 1;
+        }
+        k += 1;
+    }
+    found
 }
 
 // Whether the l symbols at place i, weighted as they are in the code, add up to this.

@@ -1,32 +1,33 @@
--- `caption::find` meets its contract. The invariant: the weighted signature is that of place i, and the hits before it are noted.
+-- `caption::find` meets its contract. The invariant: the weighted signatures are those of the places from i on, and the hits before place i are noted.
 -- Assumes nothing.
-use mathlib.Core.List.{List}
-use mathlib.Core.Bool.{Bool}
+use mathlib.Core.Path.{_≡_, sym, ap, ap₂, _∙_}
 use mathlib.Core.Logic.{⊎-elim}
-use mathlib.Core.Path.{_≡_, refl, sym, ap, ap₂, _∙_}
-use Prim.Native.Nat.{ℕ, _+_, _-_, _≤_, _<_}
+use mathlib.Core.Bool.{Bool}
+use mathlib.Core.List.{List}
+use Prim.Native.Nat.{ℕ, _+_, _-_, _*_, _%_, _≤_, _<_, min}
 use native.Mathlib.Omega.{arith}
-use native.Mathlib.Numerals.{add-one}
+use native.Mathlib.Nat.{zero-add}
+use lib.ListN.{length, getD}
 use lib.Dec.{eqb}
-use lib.ListN.{length}
-use Rattle.units.specs.declared.Verdict.the-variants.{Allowed}
-use Rattle.units.specs.declared.Listed.the-variants.{Numbers}
-use Rattle.units.specs.Writing.{written}
+use borrow.Author.Needs.{needs}
+use Rattle.units.proofs.Noting.{Noted, none-noted, noted-below, noted-length}
 use Rattle.units.specs.Naming.{named}
-use Rattle.units.proofs.Noting.{Noted, none-noted, noted-below, noted-length, noted-passed, noted-listed}
-use Rattle.field.specs.Field.{GF16, Element, _⊕_, product, doubled, α}
-use Rattle.field.proofs.Products.{product-one}
-use Rattle.field.proofs.Powers.{power-zero}
+use Rattle.units.specs.Writing.{written}
+use Rattle.units.specs.declared.Listed.the-variants.{Numbers}
+use Rattle.units.specs.declared.Verdict.the-variants.{Allowed}
 use Rattle.field.proofs.Instances.{GF16-passes, GF16-formed}
-use Rattle.signature.specs.Objects.{Octets, symbol, symbols}
-use Rattle.signature.specs.declared.Signature.{Signature}
-use Rattle.signature.specs.Signatures.{signature}
-use Rattle.signature.proofs.Components.{component-element}
+use Rattle.field.proofs.Products.{product-assoc}
+use Rattle.field.specs.Field.{GF16, Element, _⊕_, product}
 use Rattle.signature.proofs.Octets.{GF16-symbol}
-use Rattle.caption.specs.Codes.{previous, weight, hit, places}
+use Rattle.signature.proofs.Components.{component-element}
+use Rattle.signature.specs.Signatures.{signature}
+use Rattle.signature.specs.declared.Signature.{Signature}
+use Rattle.signature.specs.Objects.{Octets, symbol, symbols}
 use Rattle.caption.specs.Searches.{searchedOf, searchUnless, placesFor, found}
-use Rattle.caption.proofs.Codes.{weighed-turn}
+use Rattle.caption.specs.Codes.{previous, weight, hit}
+use Rattle.caption.proofs.Turns.{again, all-passed}
 use Rattle.caption.proofs.Allowing.{place-inside}
+use Rattle.caption.proofs.Codes.{weight-element, weight-on}
 use Rattle.caption.proofs.find.Statement.{statement}
 use Rattle.caption.proofs.find.Tie as tie
 
@@ -36,7 +37,8 @@ hitting caption pattern = hit GF16 0 (symbol 2 caption) (symbols 2 pattern) (sym
 
 abbrev Inv-loop : tie.InvT-loop
 Inv-loop caption pattern list₀ count l weighed₀ found₀ i₀ list weighed found i =
-    (i ≤ placesFor caption pattern) × (weighed ≡ product GF16 (signature GF16 2 pattern 1) (weight GF16 0 i))
+    (i ≤ placesFor caption pattern) × (length weighed ≡ 16)
+    × (i < placesFor caption pattern → (k : ℕ) → k < 16 → getD weighed k 0 ≡ product GF16 (signature GF16 2 pattern 1) (weight GF16 0 (i + k)))
     × Noted (hitting caption pattern) list₀ i list found
 
 abbrev μ-loop : tie.MeasureT-loop
@@ -45,10 +47,13 @@ abbrev μ-loop : tie.MeasureT-loop
 signed : (pattern : List ℕ) → Octets pattern → Element GF16 (signature GF16 2 pattern 1)
 signed pattern octets = component-element GF16 GF16-formed (symbols 2 pattern) (symbol 2 pattern) 1 (GF16-symbol pattern octets)
 
--- a turn's list and count, by whichever way they came
-again : {test : ℕ → Bool} {list₀ : List ℕ} {k : ℕ} {list new : List ℕ} {found count : ℕ} → list ≡ new → found ≡ count
-    → Noted test list₀ k new count → Noted test list₀ k list found
-again l f n = record { list-is = l ∙ n .list-is; found-is = f ∙ n .found-is }
+-- the symbols at each place of a block are inside the field
+block-inside : (caption pattern : List ℕ) {count l i n : ℕ} → length caption % 2 ≡ 0 → count ≡ placesFor caption pattern → l ≡ symbols 2 pattern
+    → i < count → n ≡ min (count - i) 16 → (i + n + l) * 2 ≤ length caption + 2
+block-inside caption pattern {count} {l} {i} {n} even counted long before few =
+    let below : i + n - 1 < placesFor caption pattern = omega arith in
+    let inside : i + n - 1 + symbols 2 pattern ≤ symbols 2 caption = place-inside (symbols 2 caption) (symbols 2 pattern) (i + n - 1) below in
+    omega arith
 
 -- when every place is through, the list and the count are those of the definition
 all-noted : (caption pattern list₀ : List ℕ) (k : ℕ) (list : List ℕ) (count : ℕ) → k ≡ placesFor caption pattern
@@ -74,101 +79,97 @@ symbols-in-requires c κs = tt
 own-requires : tie.Need-own-requires Inv-loop μ-loop
 own-requires c κs = tt
 
+slice-aggregate-put-weights : tie.Need-slice-aggregate-put-weights Inv-loop μ-loop
+slice-aggregate-put-weights c = search needs
+
+put-weights-requires : tie.Need-put-weights-requires Inv-loop μ-loop
+put-weights-requires c κs = tt
+
 loop-holds : tie.Need-loop-holds Inv-loop μ-loop
-loop-holds c =
-    let args : _ = c .before .before .before .before .before .before .before .args in
-    let pattern : List ℕ = args .pattern .now in (
-      omega arith,
-      ap (λ (s : Signature). s .s1) (c .own .ensures)
-          ∙ sym (product-one GF16 GF16-formed (signed pattern (λ i. c .before .before .before .before .before .shared-slice-known2 .given i .fits)))
-          ∙ ap (product GF16 (signature GF16 2 pattern 1)) (sym (power-zero GF16 GF16-formed α)),
-      none-noted,
+loop-holds c = (
+  omega arith,
+  c .before .put-weights .kept .1 .0,
+  λ some k h.
+      c .before .put-weights .ensures k h
+      ∙ ap₂ (λ (x j : ℕ). product GF16 x (weight GF16 0 j)) (ap (λ (s : Signature). s .s1) (c .before .before .before .own .ensures)) (sym (zero-add k)),
+  none-noted,
+)
+
+sub-block-of : tie.Need-sub-block-of Inv-loop μ-loop
+sub-block-of c = omega arith
+
+block-of-requires : tie.Need-block-of-requires Inv-loop μ-loop
+block-of-requires c κs = tt
+
+slice-aggregate-may-hit : tie.Need-slice-aggregate-may-hit Inv-loop μ-loop
+slice-aggregate-may-hit c = search needs
+
+may-hit-requires : tie.Need-may-hit-requires Inv-loop μ-loop
+may-hit-requires c κs =
+    let args : _ = c .before .before .before .before .before .before .before .before .before .before .before .before .before .before .args in
+    (block-inside (args .caption .now) (args .pattern .now) (c .before .before .before .before .before .before .before .before .before .before .before .before .before .before .pre .0) (c .before .before .before .before .before .before .before .before .before .before .places .ensures) (c .before .before .before .before .before .before .before .before .symbols-in .ensures) (c .before .before .loop-test .taken) (c .before .block-of .ensures), omega (arith, c .before .block-of .ensures, c .before .before .before .loop .inv .1))
+
+slice-aggregate-note : tie.Need-slice-aggregate-note Inv-loop μ-loop
+slice-aggregate-note c = search needs
+
+note-requires : tie.Need-note-requires Inv-loop μ-loop
+note-requires c κs =
+    let args : _ = c .before .before .before .before .before .before .before .before .before .before .before .before .before .before .before .before .before .before .args in
+    let at : _ = c .before .before .before .before .before .before .before .loop in (
+      block-inside (args .caption .now) (args .pattern .now) (c .before .before .before .before .before .before .before .before .before .before .before .before .before .before .before .before .before .before .pre .0) (c .before .before .before .before .before .before .before .before .before .before .before .before .before .before .places .ensures) (c .before .before .before .before .before .before .before .before .before .before .before .before .symbols-in .ensures) (c .before .before .before .before .before .before .loop-test .taken) (c .before .before .before .before .before .block-of .ensures),
+      omega (arith, c .before .before .before .before .before .block-of .ensures, at .inv .1),
+      omega (arith, c .before .before .before .before .before .block-of .ensures, c .before .before .before .before .before .before .before .before .before .before .before .before .before .before .places .ensures, noted-length (at .inv .3) (omega (arith, at .inv .0, c .before .before .before .before .before .before .before .before .before .before .before .before .before .before .before .before .before .before .pre .1)), c .before .before .before .before .before .before .before .before .before .before .before .before .before .before .before .before .before .before .pre .1),
+      noted-below (at .inv .3),
     )
 
-hits-requires : tie.Need-hits-requires Inv-loop μ-loop
-hits-requires c κs =
-    let args : _ = c .before .before .before .before .before .before .before .before .before .args in
-    let counted : _ = c .before .before .before .before .before .places in
-    let below : c .before .loop .i < placesFor (args .caption .now) (args .pattern .now) = omega (arith, counted .ensures) in
-    omega (
-      arith,
-      place-inside (symbols 2 (args .caption .now)) (symbols 2 (args .pattern .now)) (c .before .loop .i) below,
-      c .before .before .before .symbols-in .ensures,
-      c .before .before .before .before .before .before .before .before .before .pre .0,
-    )
+slice-aggregate-move-on : tie.Need-slice-aggregate-move-on Inv-loop μ-loop
+slice-aggregate-move-on c = search needs
 
-mul-list : tie.Need-mul-list Inv-loop μ-loop
-mul-list c =
-    let required : _ = c .before .before .before .before .before .before .before .before .before .before .before .pre .1 in
-    let counted : _ = c .before .before .before .before .before .before .before .places in
-    let at : _ = c .before .before .before .loop in
-    record { fits = omega (arith, noted-below (at .inv .2), at .inv .0, counted .ensures, required) }
-
-slice-write-list : tie.Need-slice-write-list Inv-loop μ-loop
-slice-write-list c =
-    let args : _ = c .before .before .before .before .before .before .before .before .before .before .before .args in
-    let required : _ = c .before .before .before .before .before .before .before .before .before .before .before .pre .1 in
-    let counted : _ = c .before .before .before .before .before .before .before .places in
-    let at : _ = c .before .before .before .loop in
-    let inside : at .i < length (args .list .now) = omega (arith, counted .ensures, required) in
-    omega (arith, noted-below (at .inv .2), noted-length (at .inv .2) (omega arith))
-
-add-found : tie.Need-add-found Inv-loop μ-loop
-add-found c =
-    let required : _ = c .before .before .before .before .before .before .before .before .before .before .before .pre .1 in
-    let counted : _ = c .before .before .before .before .before .before .before .places in
-    let at : _ = c .before .before .before .loop in
-    record { fits = omega (arith, noted-below (at .inv .2), at .inv .0, counted .ensures, required) }
-
-double-requires : tie.Need-double-requires Inv-loop μ-loop
-double-requires c κs = tt
+move-on-requires : tie.Need-move-on-requires Inv-loop μ-loop
+move-on-requires c κs = c .before .before .before .before .before .before .loop .inv .1
 
 add-i : tie.Need-add-i Inv-loop μ-loop
-add-i c =
-    let required : _ = c .before .before .before .before .before .before .before .before .before .before .before .before .pre .1 in
-    let counted : _ = c .before .before .before .before .before .before .before .before .places in
-    record { fits = omega (arith, c .before .before .before .before .loop .inv .0, counted .ensures, required) }
+add-i c = omega (arith, c .before .before .before .before .before .before .block-of .ensures)
 
 loop-less : tie.Need-loop-less Inv-loop μ-loop
-loop-less c = omega (arith, c .before .before .before .before .before .before .before .before .places .ensures)
+loop-less c = omega (arith, c .before .before .before .before .before .before .block-of .ensures, c .before .before .before .before .before .before .before .before .before .before .before .before .before .before .before .places .ensures)
 
 loop-again : tie.Need-loop-again Inv-loop μ-loop
 unfolding hitting hit
 loop-again c =
-    let required : _ = c .before .before .before .before .before .before .before .before .before .before .before .before .pre .1 in
-    let shared-slice-known2 : _ = c .before .before .before .before .before .before .before .before .before .before .shared-slice-known2 in
-    let counted : _ = c .before .before .before .before .before .before .before .before .places in
-    let symbols-in : _ = c .before .before .before .before .before .before .symbols-in in
-    let args : _ = c .before .before .before .before .before .before .before .before .before .before .before .before .args in
-    let at : _ = c .before .before .before .before .loop in
+    let args : _ = c .before .before .before .before .before .before .before .before .before .before .before .before .before .before .before .before .before .before .before .args in
+    let at : _ = c .before .before .before .before .before .before .before .before .loop in
     let caption : List ℕ = args .caption .now in
     let pattern : List ℕ = args .pattern .now in
-    let inside : at .i < length (args .list .now) = omega (arith, counted .ensures, required) in
-    let is : c .before .before .hits .result ≡ hitting caption pattern (at .i) =
-    c .before .before .hits .ensures
-    ∙ ap₂ (λ (l x : ℕ). eqb (previous (symbol 2 caption) (at .i + l) ⊕ previous (symbol 2 caption) (at .i)) x) (symbols-in .ensures) (at .inv .1) in (
-      omega (arith, counted .ensures),
-      c .double .ensures
-          ∙ ap (doubled GF16) (at .inv .1)
-          ∙ weighed-turn GF16 0 GF16-passes (at .i) (signed pattern (λ i. shared-slice-known2 .given i .fits))
-          ∙ ap (λ (k : ℕ). product GF16 (signature GF16 2 pattern 1) (weight GF16 0 k)) (sym (add-one (at .i))),
-      ⊎-elim
-          (λ w. again (w .1) (w .2) (noted-listed (at .inv .2) (add-one (at .i)) refl (sym is ∙ w .0 .taken) inside))
-          (λ w. again (w .1) (w .2) (noted-passed (at .inv .2) (add-one (at .i)) (sym is ∙ w .0 .left)))
-          (c .before .if2 .came),
+    let code : ℕ → ℕ = symbol 2 caption in
+    let n : ℕ = c .before .before .before .before .before .before .block-of .result in
+    let few : n ≡ min (c .before .before .before .before .before .before .before .before .before .before .before .before .before .before .before .places .result - at .i) 16 = c .before .before .before .before .before .before .block-of .ensures in
+    let inside : at .i < placesFor caption pattern = omega (arith, c .before .before .before .before .before .before .before .before .before .before .before .before .before .before .before .places .ensures) in
+    let long : length (args .list .now) ≡ length (at .list) = sym (noted-length (at .inv .3) (omega (arith, at .inv .0, c .before .before .before .before .before .before .before .before .before .before .before .before .before .before .before .before .before .before .before .pre .1))) in
+    let each : (k : ℕ) → k < n → hitting caption pattern (at .i + k) ≡ eqb (previous code (at .i + k + c .before .before .before .before .before .before .before .before .before .before .before .before .before .symbols-in .result .count) ⊕ previous code (at .i + k)) (getD (at .weighed) k 0) =
+    λ k h. sym (ap₂ (λ (m x : ℕ). eqb (previous code (at .i + k + m) ⊕ previous code (at .i + k)) x) (c .before .before .before .before .before .before .before .before .before .before .before .before .before .symbols-in .ensures) (at .inv .2 inside k (omega (arith, h, few)))) in (
+      omega (arith, few, c .before .before .before .before .before .before .before .before .before .before .before .before .before .before .before .places .ensures),
+      c .before .move-on .kept .0 ∙ at .inv .1,
+      λ more k h.
+          let on : at .i + k + 16 ≡ at .i + n + k = omega (arith, few, more, c .before .before .before .before .before .before .before .before .before .before .before .before .before .before .before .places .ensures) in
+          c .before .move-on .ensures k h
+          ∙ ap (λ (x : ℕ). product GF16 x (weight GF16 0 16)) (at .inv .2 inside k h)
+          ∙ product-assoc GF16 GF16-formed (signed pattern (λ j. c .before .before .before .before .before .before .before .before .before .before .before .before .before .before .before .before .before .shared-slice-known2 .given j .fits)) (weight-element GF16 0 GF16-passes (at .i + k)) (weight-element GF16 0 GF16-passes 16)
+          ∙ ap (product GF16 (signature GF16 2 pattern 1)) (weight-on GF16 0 GF16-passes (at .i + k) 16 ∙ ap (weight GF16 0) on),
+      ⊎-elim (λ w. again (w .6) (w .7) (w .3 .ensures (hitting caption pattern) (args .list .now) long each (at .inv .3)))
+          (λ w. again (w .1) (w .2) (all-passed n (at .inv .3) (λ k h. each k h ∙ c .before .before .before .before .may-hit .ensures (w .0 .left) k h)))
+          (c .before .before .before .if2 .came),
     )
 
 same-length : tie.Need-same-length Inv-loop μ-loop
-same-length c =
-    let required : _ = c .before .before .before .before .before .before .before .before .before .pre .1 in
-    noted-length (c .before .loop .inv .2) (omega (arith, c .before .loop .inv .0, required))
+same-length c = noted-length (c .before .loop .inv .3) (omega (arith, c .before .loop .inv .0, c .before .before .before .before .before .before .before .before .before .before .before .before .pre .1))
 
 returns-2 : tie.Need-returns-2 Inv-loop μ-loop
 returns-2 c =
-    let counted : _ = c .before .before .before .before .before .places in
-    let args : _ = c .before .before .before .before .before .before .before .before .before .args in
-    let all : c .before .loop .i ≡ placesFor (args .caption .now) (args .pattern .now) = omega (arith, counted .ensures, c .before .loop .inv .0) in
-    all-noted (args .caption .now) (args .pattern .now) (args .list .now) (c .before .loop .i) (c .before .loop .list) (c .before .loop .found) all (c .before .loop .inv .2)
+    let args : _ = c .before .before .before .before .before .before .before .before .before .before .before .before .args in
+    let at : _ = c .before .loop in
+    let all : at .i ≡ placesFor (args .caption .now) (args .pattern .now) = omega (arith, c .before .before .before .before .before .before .before .before .places .ensures, at .inv .0) in
+    all-noted (args .caption .now) (args .pattern .now) (args .list .now) (at .i) (at .list) (at .found) all (at .inv .3)
 
 pub find-spec : {M : Type 1} → statement M
 find-spec =
@@ -180,12 +181,17 @@ find-spec =
     returns
     symbols-in-requires
     own-requires
+    slice-aggregate-put-weights
+    put-weights-requires
     loop-holds
-    hits-requires
-    mul-list
-    slice-write-list
-    add-found
-    double-requires
+    sub-block-of
+    block-of-requires
+    slice-aggregate-may-hit
+    may-hit-requires
+    slice-aggregate-note
+    note-requires
+    slice-aggregate-move-on
+    move-on-requires
     add-i
     loop-less
     loop-again

@@ -1,4 +1,4 @@
--- `caption::put_weights` meets its contract. The invariant: the weights before l are put, and the next is at hand.
+-- `caption::blocks::put_weights` meets its contract. The invariant: the weights before l are put, and the next is at hand.
 -- Assumes nothing.
 use mathlib.Core.Path.{_≡_, sym, ap, _∙_}
 use Prim.Native.Nat.{ℕ, _-_, _≤_, _<_}
@@ -11,10 +11,10 @@ use Rattle.field.proofs.Powers.{power-zero}
 use Rattle.field.proofs.Products.{product-one}
 use Rattle.field.specs.Field.{GF16, product, doubled, α}
 use Rattle.caption.specs.Codes as Codes
-use Rattle.caption.proofs.Blocks.{Set, none-set, one-set}
+use Rattle.caption.proofs.Turns.{Set, none-set, one-set}
 use Rattle.caption.proofs.Codes.{weighed-turn}
-use Rattle.caption.proofs.put_weights.Statement.{statement}
-use Rattle.caption.proofs.put_weights.Tie as tie
+use Rattle.caption.proofs.blocks.put_weights.Statement.{statement}
+use Rattle.caption.proofs.blocks.put_weights.Tie as tie
 
 abbrev Inv-loop : tie.InvT-loop
 Inv-loop first weights₀ weight₀ l₀ weights weight l =

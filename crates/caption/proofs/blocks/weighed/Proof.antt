@@ -1,4 +1,4 @@
--- `caption::weighed` meets its contract. The invariant: r and the product of what is left sum to the product that is asked for, and x is the weight so many symbols on.
+-- `caption::blocks::weighed` meets its contract. The invariant: r and the product of what is left sum to the product that is asked for, and x is the weight so many symbols on.
 -- Assumes nothing.
 use mathlib.Core.Path.{_≡_, sym, ap, ap₂, _∙_}
 use Prim.Native.Nat.{ℕ, _-_, _/_, _%_, _^_, _≤_, _<_}
@@ -12,10 +12,10 @@ use Rattle.field.proofs.Products.{product-comm, product-one}
 use Rattle.field.proofs.Sums.{zero-sum, sum-zero}
 use Rattle.field.specs.Field.{GF16, _⊕_, scaled, product, doubled, α}
 use Rattle.caption.specs.Codes as Codes
-use Rattle.caption.proofs.Blocks.{digit-scaled, digit-le}
+use Rattle.caption.proofs.Turns.{digit-scaled, digit-le}
 use Rattle.caption.proofs.Codes.{weighed-turn}
-use Rattle.caption.proofs.weighed.Statement.{statement}
-use Rattle.caption.proofs.weighed.Tie as tie
+use Rattle.caption.proofs.blocks.weighed.Statement.{statement}
+use Rattle.caption.proofs.blocks.weighed.Tie as tie
 
 abbrev Inv-loop : tie.InvT-loop
 Inv-loop symbol weight r₀ x₀ y₀ turn₀ r x y turn =

@@ -1,4 +1,4 @@
--- `caption::weigh` meets its contract. The invariant: l symbols are weighed, and l weights are those of 16 symbols on.
+-- `caption::blocks::weigh` meets its contract. The invariant: l symbols are weighed, and l weights are those of 16 symbols on.
 -- Assumes nothing.
 use mathlib.Core.Path.{_≡_, ap, ap₂, _∙_}
 use Prim.Native.Nat.{ℕ, _-_, _≤_}
@@ -7,9 +7,9 @@ use native.Mathlib.Nat.{le-refl}
 use lib.ListN.{getD}
 use Rattle.field.specs.Field.{GF16, product}
 use Rattle.caption.specs.Codes as Codes
-use Rattle.caption.proofs.Blocks.{Set, none-set, one-set}
-use Rattle.caption.proofs.weigh.Statement.{statement}
-use Rattle.caption.proofs.weigh.Tie as tie
+use Rattle.caption.proofs.Turns.{Set, none-set, one-set}
+use Rattle.caption.proofs.blocks.weigh.Statement.{statement}
+use Rattle.caption.proofs.blocks.weigh.Tie as tie
 
 abbrev Inv-loop : tie.InvT-loop
 Inv-loop block₀ weights₀ l₀ block weights l =

@@ -1,13 +1,15 @@
--- A block of symbols: a list whose places are set one after the other, and what a digit of a symbol adds.
+-- What a turn of the loops over a block does: a place of a list is set, a place is passed by in a search, a digit of a symbol is added.
 -- Assumes nothing.
-use mathlib.Core.Path.{_≡_, refl, sym, ap, _∙_}
+use mathlib.Core.Path.{_≡_, refl, sym, ap, _∙_, subst}
+use mathlib.Core.Bool.{Bool, false}
 use mathlib.Core.Logic.{⊎-elim}
 use mathlib.Core.List.{List}
 use Prim.Native.Nat.{ℕ, zero, suc, _+_, _*_, _≤_, _<_}
-use native.Mathlib.Nat.{eq-or-lt-of-le, zero-mul, one-mul}
+use native.Mathlib.Nat.{eq-or-lt-of-le, add-zero, zero-mul, one-mul}
 use native.Mathlib.Omega.{arith}
 use lib.ListN.{length, getD, set, length-set}
 use lib.Seq.{getD-set-same, getD-set-other}
+use Rattle.units.proofs.Noting.{Noted, noted-passed}
 use Rattle.field.specs.Field.{scaled}
 
 -- the places before l are set, each to its value, and the others are as they were
@@ -35,6 +37,19 @@ one-set {value} {old} {new} {l} x s inside here =
 
     earlier : (k : ℕ) → k < l → getD (set new l x) k 0 ≡ value k
     earlier k b = getD-set-other new l k x 0 (λ e. absurd (omega (arith, b, e))) ∙ s .done k b
+
+-- a turn's list and count, by whichever way they came
+pub again : {test : ℕ → Bool} {old : List ℕ} {k : ℕ} {list new : List ℕ} {found count : ℕ} → list ≡ new → found ≡ count
+    → Noted test old k new count → Noted test old k list found
+again l f n = record { list-is = l ∙ n .list-is; found-is = f ∙ n .found-is }
+
+-- n places passed by
+pub all-passed : {test : ℕ → Bool} {old : List ℕ} {i : ℕ} {list : List ℕ} {found : ℕ} (n : ℕ) → Noted test old i list found
+    → ((k : ℕ) → k < n → test (i + k) ≡ false) → Noted test old (i + n) list found
+all-passed {test} {old} {i} {list} {found} zero s none = subst (λ (k : ℕ). Noted test old k list found) (sym (add-zero i)) s
+all-passed {i = i} (suc n) s none =
+    let up : i + suc n ≡ suc (i + n) = omega arith in
+    noted-passed (all-passed n s (λ k h. none k (omega (arith, h)))) up (none n (omega arith))
 
 -- a digit times a symbol, as a product of numbers
 
