@@ -8,10 +8,10 @@ ghost use Prim.Native.Nat.{ℕ, _+_, _-_, _*_, _%_, _≤_, _<_};
 ghost use lib.Dec.{eqb};
 ghost use lib.ListN.{length, getD};
 ghost use Rattle.units.specs.Filling.{outcomeOf};
+ghost use Rattle.units.specs.Naming.{named};
 ghost use Rattle.units.specs.Refusals.{first};
 ghost use Rattle.units.specs.Writing.{written};
 ghost use Rattle.units.specs.declared.Verdict.the-variants.{Allowed, Refused};
-ghost use Rattle.units.proofs.Noting.{Noted};
 ghost use Rattle.field.specs.Field.{_⊕_};
 ghost use Rattle.signature.specs.Objects.{symbol as Object·symbol, symbols as Object·symbols};
 ghost use Rattle.caption.specs.Codes.{previous as Code·previous};
@@ -303,7 +303,7 @@ fn note(
     before: usize,
 ) -> usize
     requires { ⌜ ((i + n + l) * 2 ≤ length (now caption) + 2) × (n ≤ length (now weighed)) × (i + n ≤ length (now list)) × (before ≤ i) ⌝ }
-    ensures { λ r. ⌜ ((test : ℕ → Bool) (old : List ℕ) → length old ≡ length (now (list .entry)) → ((k : ℕ) → k < n → test (i + k) ≡ eqb (Code·previous (Object·symbol 2 (now (caption .entry))) (i + k + l) ⊕ Code·previous (Object·symbol 2 (now (caption .entry))) (i + k)) (getD (now (weighed .entry)) k 0)) → Noted test old i (now (list .entry)) before → Noted test old (i + n) (now (list .exit)) r) ⌝ }
+    ensures { λ r. ⌜ ((test : ℕ → Bool) (old : List ℕ) → length old ≡ length (now (list .entry)) → ((k : ℕ) → k < n → test (i + k) ≡ eqb (Code·previous (Object·symbol 2 (now (caption .entry))) (i + k + l) ⊕ Code·previous (Object·symbol 2 (now (caption .entry))) (i + k)) (getD (now (weighed .entry)) k 0)) → now (list .entry) ≡ written old 0 (named test i) → before ≡ length (named test i) → (now (list .exit) ≡ written old 0 (named test (i + n))) × (r ≡ length (named test (i + n)))) ⌝ }
 {
     let mut found = before;
     let mut k: usize = 0;

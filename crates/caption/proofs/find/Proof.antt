@@ -106,19 +106,27 @@ slice-aggregate-may-hit c = search needs
 
 may-hit-requires : tie.Need-may-hit-requires Inv-loop μ-loop
 may-hit-requires c κs =
+    let required : _ = c .before .before .before .before .before .before .before .before .before .before .before .before .before .before .pre in
+    let counted : _ = c .before .before .before .before .before .before .before .before .before .before .places in
+    let symbols-in : _ = c .before .before .before .before .before .before .before .before .symbols-in in
     let args : _ = c .before .before .before .before .before .before .before .before .before .before .before .before .before .before .args in
-    (block-inside (args .caption .now) (args .pattern .now) (c .before .before .before .before .before .before .before .before .before .before .before .before .before .before .pre .0) (c .before .before .before .before .before .before .before .before .before .before .places .ensures) (c .before .before .before .before .before .before .before .before .symbols-in .ensures) (c .before .before .loop-test .taken) (c .before .block-of .ensures), omega (arith, c .before .block-of .ensures, c .before .before .before .loop .inv .1))
+    (block-inside (args .caption .now) (args .pattern .now) (required .0) (counted .ensures) (symbols-in .ensures) (c .before .before .loop-test .taken) (c .before .block-of .ensures), omega (arith, c .before .block-of .ensures, c .before .before .before .loop .inv .1))
 
 slice-aggregate-note : tie.Need-slice-aggregate-note Inv-loop μ-loop
 slice-aggregate-note c = search needs
 
 note-requires : tie.Need-note-requires Inv-loop μ-loop
 note-requires c κs =
+    let required : _ = c .before .before .before .before .before .before .before .before .before .before .before .before .before .before .before .before .before .before .pre in
+    let counted : _ = c .before .before .before .before .before .before .before .before .before .before .before .before .before .before .places in
+    let symbols-in : _ = c .before .before .before .before .before .before .before .before .before .before .before .before .symbols-in in
+    let loop-test : _ = c .before .before .before .before .before .before .loop-test in
+    let block-of : _ = c .before .before .before .before .before .block-of in
     let args : _ = c .before .before .before .before .before .before .before .before .before .before .before .before .before .before .before .before .before .before .args in
     let at : _ = c .before .before .before .before .before .before .before .loop in (
-      block-inside (args .caption .now) (args .pattern .now) (c .before .before .before .before .before .before .before .before .before .before .before .before .before .before .before .before .before .before .pre .0) (c .before .before .before .before .before .before .before .before .before .before .before .before .before .before .places .ensures) (c .before .before .before .before .before .before .before .before .before .before .before .before .symbols-in .ensures) (c .before .before .before .before .before .before .loop-test .taken) (c .before .before .before .before .before .block-of .ensures),
-      omega (arith, c .before .before .before .before .before .block-of .ensures, at .inv .1),
-      omega (arith, c .before .before .before .before .before .block-of .ensures, c .before .before .before .before .before .before .before .before .before .before .before .before .before .before .places .ensures, noted-length (at .inv .3) (omega (arith, at .inv .0, c .before .before .before .before .before .before .before .before .before .before .before .before .before .before .before .before .before .before .pre .1)), c .before .before .before .before .before .before .before .before .before .before .before .before .before .before .before .before .before .before .pre .1),
+      block-inside (args .caption .now) (args .pattern .now) (required .0) (counted .ensures) (symbols-in .ensures) (loop-test .taken) (block-of .ensures),
+      omega (arith, block-of .ensures, at .inv .1),
+      omega (arith, block-of .ensures, counted .ensures, noted-length (at .inv .3) (omega (arith, at .inv .0, required .1)), required .1),
       noted-below (at .inv .3),
     )
 
@@ -132,43 +140,58 @@ add-i : tie.Need-add-i Inv-loop μ-loop
 add-i c = omega (arith, c .before .before .before .before .before .before .block-of .ensures)
 
 loop-less : tie.Need-loop-less Inv-loop μ-loop
-loop-less c = omega (arith, c .before .before .before .before .before .before .block-of .ensures, c .before .before .before .before .before .before .before .before .before .before .before .before .before .before .before .places .ensures)
+loop-less c =
+    let counted : _ = c .before .before .before .before .before .before .before .before .before .before .before .before .before .before .before .places in
+    let block-of : _ = c .before .before .before .before .before .before .block-of in
+    omega (arith, block-of .ensures, counted .ensures)
 
 loop-again : tie.Need-loop-again Inv-loop μ-loop
 unfolding hitting hit
 loop-again c =
+    let required : _ = c .before .before .before .before .before .before .before .before .before .before .before .before .before .before .before .before .before .before .before .pre in
+    let shared-slice-known2 : _ = c .before .before .before .before .before .before .before .before .before .before .before .before .before .before .before .before .before .shared-slice-known2 in
+    let counted : _ = c .before .before .before .before .before .before .before .before .before .before .before .before .before .before .before .places in
+    let symbols-in : _ = c .before .before .before .before .before .before .before .before .before .before .before .before .before .symbols-in in
+    let block-of : _ = c .before .before .before .before .before .before .block-of in
+    let may-hit : _ = c .before .before .before .before .may-hit in
     let args : _ = c .before .before .before .before .before .before .before .before .before .before .before .before .before .before .before .before .before .before .before .args in
     let at : _ = c .before .before .before .before .before .before .before .before .loop in
     let caption : List ℕ = args .caption .now in
     let pattern : List ℕ = args .pattern .now in
     let code : ℕ → ℕ = symbol 2 caption in
-    let n : ℕ = c .before .before .before .before .before .before .block-of .result in
-    let few : n ≡ min (c .before .before .before .before .before .before .before .before .before .before .before .before .before .before .before .places .result - at .i) 16 = c .before .before .before .before .before .before .block-of .ensures in
-    let inside : at .i < placesFor caption pattern = omega (arith, c .before .before .before .before .before .before .before .before .before .before .before .before .before .before .before .places .ensures) in
-    let long : length (args .list .now) ≡ length (at .list) = sym (noted-length (at .inv .3) (omega (arith, at .inv .0, c .before .before .before .before .before .before .before .before .before .before .before .before .before .before .before .before .before .before .before .pre .1))) in
-    let each : (k : ℕ) → k < n → hitting caption pattern (at .i + k) ≡ eqb (previous code (at .i + k + c .before .before .before .before .before .before .before .before .before .before .before .before .before .symbols-in .result .count) ⊕ previous code (at .i + k)) (getD (at .weighed) k 0) =
-    λ k h. sym (ap₂ (λ (m x : ℕ). eqb (previous code (at .i + k + m) ⊕ previous code (at .i + k)) x) (c .before .before .before .before .before .before .before .before .before .before .before .before .before .symbols-in .ensures) (at .inv .2 inside k (omega (arith, h, few)))) in (
-      omega (arith, few, c .before .before .before .before .before .before .before .before .before .before .before .before .before .before .before .places .ensures),
+    let n : ℕ = block-of .result in
+    let few : n ≡ min (counted .result - at .i) 16 = block-of .ensures in
+    let inside : at .i < placesFor caption pattern = omega (arith, counted .ensures) in
+    let long : length (args .list .now) ≡ length (at .list) = sym (noted-length (at .inv .3) (omega (arith, at .inv .0, required .1))) in
+    let each : (k : ℕ) → k < n → hitting caption pattern (at .i + k) ≡ eqb (previous code (at .i + k + symbols-in .result .count) ⊕ previous code (at .i + k)) (getD (at .weighed) k 0) =
+    λ k h. sym (ap₂ (λ (m x : ℕ). eqb (previous code (at .i + k + m) ⊕ previous code (at .i + k)) x) (symbols-in .ensures) (at .inv .2 inside k (omega (arith, h, few)))) in (
+      omega (arith, few, counted .ensures),
       c .before .move-on .kept .0 ∙ at .inv .1,
       λ more k h.
-          let on : at .i + k + 16 ≡ at .i + n + k = omega (arith, few, more, c .before .before .before .before .before .before .before .before .before .before .before .before .before .before .before .places .ensures) in
+          let on : at .i + k + 16 ≡ at .i + n + k = omega (arith, few, more, counted .ensures) in
           c .before .move-on .ensures k h
           ∙ ap (λ (x : ℕ). product GF16 x (weight GF16 0 16)) (at .inv .2 inside k h)
-          ∙ product-assoc GF16 GF16-formed (signed pattern (λ j. c .before .before .before .before .before .before .before .before .before .before .before .before .before .before .before .before .before .shared-slice-known2 .given j .fits)) (weight-element GF16 0 GF16-passes (at .i + k)) (weight-element GF16 0 GF16-passes 16)
+          ∙ product-assoc GF16 GF16-formed (signed pattern (λ j. shared-slice-known2 .given j .fits)) (weight-element GF16 0 GF16-passes (at .i + k)) (weight-element GF16 0 GF16-passes 16)
           ∙ ap (product GF16 (signature GF16 2 pattern 1)) (weight-on GF16 0 GF16-passes (at .i + k) 16 ∙ ap (weight GF16 0) on),
-      ⊎-elim (λ w. again (w .6) (w .7) (w .3 .ensures (hitting caption pattern) (args .list .now) long each (at .inv .3)))
-          (λ w. again (w .1) (w .2) (all-passed n (at .inv .3) (λ k h. each k h ∙ c .before .before .before .before .may-hit .ensures (w .0 .left) k h)))
+      ⊎-elim
+          (λ w.
+          let next : _ = w .3 .ensures (hitting caption pattern) (args .list .now) long each (at .inv .3 .list-is) (at .inv .3 .found-is) in
+          again (w .6) (w .7) (record { list-is = next .0; found-is = next .1 }))
+          (λ w. again (w .1) (w .2) (all-passed n (at .inv .3) (λ k h. each k h ∙ may-hit .ensures (w .0 .left) k h)))
           (c .before .before .before .if2 .came),
     )
 
 same-length : tie.Need-same-length Inv-loop μ-loop
-same-length c = noted-length (c .before .loop .inv .3) (omega (arith, c .before .loop .inv .0, c .before .before .before .before .before .before .before .before .before .before .before .before .pre .1))
+same-length c =
+    let required : _ = c .before .before .before .before .before .before .before .before .before .before .before .before .pre in
+    noted-length (c .before .loop .inv .3) (omega (arith, c .before .loop .inv .0, required .1))
 
 returns-2 : tie.Need-returns-2 Inv-loop μ-loop
 returns-2 c =
+    let counted : _ = c .before .before .before .before .before .before .before .before .places in
     let args : _ = c .before .before .before .before .before .before .before .before .before .before .before .before .args in
     let at : _ = c .before .loop in
-    let all : at .i ≡ placesFor (args .caption .now) (args .pattern .now) = omega (arith, c .before .before .before .before .before .before .before .before .places .ensures, at .inv .0) in
+    let all : at .i ≡ placesFor (args .caption .now) (args .pattern .now) = omega (arith, counted .ensures, at .inv .0) in
     all-noted (args .caption .now) (args .pattern .now) (args .list .now) (at .i) (at .list) (at .found) all (at .inv .3)
 
 pub find-spec : {M : Type 1} → statement M

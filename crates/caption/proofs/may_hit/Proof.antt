@@ -67,6 +67,7 @@ loop-less c = omega arith
 
 loop-again : tie.Need-loop-again Inv-loop μ-loop
 loop-again c =
+    let upper : _ = c .before .before .before .before .symbol-at in
     let at : _ = c .before .before .before .before .before .before .loop in
     let args : _ = c .before .before .before .before .before .before .before .before .before .before .args in
     let code : ℕ → ℕ = symbol 2 (args .caption .now) in
@@ -74,7 +75,7 @@ loop-again c =
     let last : suc (here + args .l - 1) ≡ here + args .l = omega arith in
     let before : suc (here - 1) ≡ here = omega arith in
     let is : previous code (here + args .l) ⊕ previous code here ≡ c .before .before .sum .result =
-    sym (c .before .before .sum .ensures ∙ ap₂ _⊕_ (c .before .before .before .before .symbol-at .ensures ∙ ap (previous code) last) (c .before .before .before .symbol-at2 .ensures ∙ ap (previous code) before)) in (
+    sym (c .before .before .sum .ensures ∙ ap₂ _⊕_ (upper .ensures ∙ ap (previous code) last) (c .before .before .before .symbol-at2 .ensures ∙ ap (previous code) before)) in (
       omega arith,
       ⊎-elim (λ w e. let no : _≡_ {A = ℕ} 0 1 = cc in absurd (omega arith))
           (λ w e. below-more _ _ (at .inv .1 (sym (w .1) ∙ e)) (ap (λ (x : ℕ). eqb x (getD (args .weighed .now) (at .k) 0)) is ∙ ne-eqb _ _ (w .0 .left)))

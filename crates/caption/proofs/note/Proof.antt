@@ -52,10 +52,16 @@ add-list : tie.Need-add-list Inv-loop μ-loop
 add-list c = omega (arith, c .before .before .before .before .before .before .before .before .pre .0)
 
 mul-list : tie.Need-mul-list Inv-loop μ-loop
-mul-list c = record { fits = omega (arith, c .before .before .before .before .loop .inv .1, c .before .before .before .before .loop .inv .2, c .before .before .before .before .before .before .before .before .pre .2) }
+mul-list c =
+    let required : _ = c .before .before .before .before .before .before .before .before .pre in
+    let loop : _ = c .before .before .before .before .loop in
+    record { fits = omega (arith, loop .inv .1, loop .inv .2, required .2) }
 
 slice-write-list : tie.Need-slice-write-list Inv-loop μ-loop
-slice-write-list c = omega (arith, c .before .before .before .before .loop .inv .1, c .before .before .before .before .loop .inv .2, c .before .before .before .before .before .before .before .before .pre .2)
+slice-write-list c =
+    let required : _ = c .before .before .before .before .before .before .before .before .pre in
+    let loop : _ = c .before .before .before .before .loop in
+    omega (arith, loop .inv .1, loop .inv .2, required .2)
 
 add-found : tie.Need-add-found Inv-loop μ-loop
 add-found c = record { fits = omega (arith, c .before .before .before .before .loop .inv .1, c .before .before .before .before .before .before .before .before .pre .0) }
@@ -68,10 +74,11 @@ loop-less c = omega arith
 
 loop-again : tie.Need-loop-again Inv-loop μ-loop
 loop-again c =
+    let required : _ = c .before .before .before .before .before .before .before .before .pre in
     let at : _ = c .before .before .before .before .loop in
     let args : _ = c .before .before .before .before .before .before .before .before .args in
     let up : args .i + (at .k + 1) ≡ suc (args .i + at .k) = omega arith in
-    let room : args .i + at .k < length (args .list .now) = omega (arith, c .before .before .before .before .before .before .before .before .pre .2) in
+    let room : args .i + at .k < length (args .list .now) = omega (arith, required .2) in
     ⊎-elim
     (λ w. (
       omega arith,
@@ -98,7 +105,10 @@ returns c =
     let at : _ = c .before .loop in
     let args : _ = c .before .before .before .before .before .args in
     let all : args .i + at .k ≡ args .i + args .n = omega arith in
-    λ test old long each from. subst (λ (k : ℕ). Noted test old k (at .list) (at .found)) all (at .inv .3 test old long each from)
+    λ test old long each list-is found-is.
+    let noted : Noted test old (args .i + args .n) (at .list) (at .found) =
+    subst (λ (k : ℕ). Noted test old k (at .list) (at .found)) all (at .inv .3 test old long each (record { list-is = list-is; found-is = found-is })) in
+    (noted .list-is, noted .found-is)
 
 pub note-spec : {M : Type 1} → statement M
 note-spec =

@@ -90,26 +90,30 @@ loop-less c = search needs
 loop-again : tie.Need-loop-again Inv-loop μ-loop
 unfolding code
 loop-again c =
+    let symbols-in : _ = c .before .before .before .before .before .before .before .before .before .before .before .before .before .before .before .before .before .before .before .symbols-in in
+    let block-of : _ = c .before .before .before .before .before .before .before .before .before .before .before .before .before .block-of in
+    let read : _ = c .before .before .before .before .before .before .before .before .before .before .before .read-symbols in
+    let weigh : _ = c .before .before .before .before .before .before .before .weigh in
     let at : _ = c .before .before .before .before .before .before .before .before .before .before .before .before .before .before .before .loop in
     let args : _ = c .before .before .before .before .before .before .before .before .before .before .before .before .before .before .before .before .before .before .before .before .before .before .args in
     let caption : List ℕ = args .caption .now in
-    let count : c .before .before .before .before .before .before .before .before .before .before .before .before .before .before .before .before .before .before .before .symbols-in .result .count ≡ symbols 2 caption = c .before .before .before .before .before .before .before .before .before .before .before .before .before .before .before .before .before .before .before .symbols-in .ensures in
+    let count : symbols-in .result .count ≡ symbols 2 caption = symbols-in .ensures in
     let inside : at .i < symbols 2 caption = omega arith in
-    let n : ℕ = c .before .before .before .before .before .before .before .before .before .before .before .before .before .block-of .result in
-    let few : n ≡ min (symbols 2 caption - at .i) 16 = c .before .before .before .before .before .before .before .before .before .before .before .before .before .block-of .ensures ∙ ap (λ (k : ℕ). min (k - at .i) 16) count in
-    let each : (l : ℕ) → l < n → previous (code caption) (at .i + l) ⊕ getD (c .before .before .before .before .before .before .before .weigh .last .0) l 0 ≡ code caption (at .i + l) =
+    let n : ℕ = block-of .result in
+    let few : n ≡ min (symbols 2 caption - at .i) 16 = block-of .ensures ∙ ap (λ (k : ℕ). min (k - at .i) 16) count in
+    let each : (l : ℕ) → l < n → previous (code caption) (at .i + l) ⊕ getD (weigh .last .0) l 0 ≡ code caption (at .i + l) =
     λ l h.
     let below : l < 16 = omega (arith, h, few) in
-    ap (λ (x : ℕ). previous (code caption) (at .i + l) ⊕ x) (c .before .before .before .before .before .before .before .weigh .ensures .0 l below ∙ ap₂ (product GF16) (c .before .before .before .before .before .before .before .before .before .before .before .read-symbols .ensures l h) (at .inv .4 inside l below))
+    ap (λ (x : ℕ). previous (code caption) (at .i + l) ⊕ x) (weigh .ensures .0 l below ∙ ap₂ (product GF16) (read .ensures l h) (at .inv .4 inside l below))
     ∙ code-turn GF16 0 (symbol 2 caption) (at .i + l) in
     let next : _ = c .before .before .put-sums .ensures (code caption) (args .output .now) (sym (at .inv .3)) (at .inv .5) each (at .inv .6) in (
       omega (arith, few),
-      c .before .before .before .before .before .before .before .weigh .kept .1 .0 ∙ at .inv .1,
-      c .before .before .before .before .before .before .before .weigh .kept .0 ∙ c .before .before .before .before .before .before .before .before .before .before .before .read-symbols .kept .1 .1 .1 .0 ∙ at .inv .2,
+      weigh .kept .1 .0 ∙ at .inv .1,
+      weigh .kept .0 ∙ read .kept .1 .1 .1 .0 ∙ at .inv .2,
       c .before .before .put-sums .kept .1 .1 .1 .1 .0 ∙ at .inv .3,
       λ more l h.
           let on : at .i + l + 16 ≡ at .i + n + l = omega (arith, few, more) in
-          c .before .before .before .before .before .before .before .weigh .ensures .1 l h
+          weigh .ensures .1 l h
           ∙ ap (λ (x : ℕ). product GF16 x (Codes.weight GF16 0 16)) (at .inv .4 inside l h)
           ∙ weight-on GF16 0 GF16-passes (at .i + l) 16
           ∙ ap (Codes.weight GF16 0) on,
@@ -123,9 +127,10 @@ same-length c = c .before .loop .inv .3
 returns : tie.Need-returns Inv-loop μ-loop
 unfolding code encoded
 returns c =
+    let symbols-in : _ = c .before .before .before .before .before .symbols-in in
     let args : _ = c .before .before .before .before .before .before .before .before .args in
     let at : _ = c .before .loop in
-    let all : at .i ≡ symbols 2 (args .caption .now) = omega (arith, c .before .before .before .before .before .symbols-in .ensures, at .inv .0) in
+    let all : at .i ≡ symbols 2 (args .caption .now) = omega (arith, symbols-in .ensures, at .inv .0) in
     at .inv .6 ∙ ap (λ (k : ℕ). written (args .output .now) 0 (bytes k (code (args .caption .now)))) all
 
 pub put-code-spec : {M : Type 1} → statement M

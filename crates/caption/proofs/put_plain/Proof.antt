@@ -54,12 +54,15 @@ put-weights-requires c κs = tt
 
 loop-holds : tie.Need-loop-holds Inv-loop μ-loop
 loop-holds c =
+    let symbols-in : _ = c .before .before .before .before .before .before .symbols-in in
+    let exponent-back : _ = c .before .before .before .before .before .exponent-back in
+    let times-power : _ = c .before .before .before .before .times-power in
     let args : _ = c .before .before .before .before .before .before .before .before .before .args in
-    let count : ℕ = c .before .before .before .before .before .before .symbols-in .result .count in
-    let all : count ≡ symbols 2 (args .caption .now) = c .before .before .before .before .before .before .symbols-in .ensures in
-    let top : c .before .before .before .before .times-power .result ≡ Codes.unweight GF16 0 count =
-    c .before .before .before .before .times-power .ensures
-    ∙ ap (λ (k : ℕ). product GF16 1 (power GF16 α k)) (c .before .before .before .before .before .exponent-back .ensures)
+    let count : ℕ = symbols-in .result .count in
+    let all : count ≡ symbols 2 (args .caption .now) = symbols-in .ensures in
+    let top : times-power .result ≡ Codes.unweight GF16 0 count =
+    times-power .ensures
+    ∙ ap (λ (k : ℕ). product GF16 1 (power GF16 α k)) (exponent-back .ensures)
     ∙ one-product GF16 GF16-formed (α-power GF16 GF16-formed _)
     ∙ ap (λ (k : ℕ). power GF16 α (65535 - k % 65535)) (sym (add-zero count)) in (
       omega arith,
@@ -108,23 +111,26 @@ loop-less c = search needs
 loop-again : tie.Need-loop-again Inv-loop μ-loop
 unfolding plainly plain
 loop-again c =
+    let block-of : _ = c .before .before .before .before .before .before .before .before .before .before .before .before .before .block-of in
+    let read : _ = c .before .before .before .before .before .before .before .before .before .before .before .read-changes in
+    let weigh : _ = c .before .before .before .before .before .before .before .weigh in
     let at : _ = c .before .before .before .before .before .before .before .before .before .before .before .before .before .before .before .loop in
     let args : _ = c .before .before .before .before .before .before .before .before .before .before .before .before .before .before .before .before .before .before .before .before .before .before .before .before .before .args in
     let caption : List ℕ = args .caption .now in
-    let n : ℕ = c .before .before .before .before .before .before .before .before .before .before .before .before .before .block-of .result in
-    let few : n ≡ min (at .i) 16 = c .before .before .before .before .before .before .before .before .before .before .before .before .before .block-of .ensures in
-    let each : (l : ℕ) → l < n → getD (c .before .before .before .before .before .before .before .weigh .last .0) l 0 ≡ plainly caption (at .i - 1 - l) =
+    let n : ℕ = block-of .result in
+    let few : n ≡ min (at .i) 16 = block-of .ensures in
+    let each : (l : ℕ) → l < n → getD (weigh .last .0) l 0 ≡ plainly caption (at .i - 1 - l) =
     λ l h.
     let below : l < 16 = omega (arith, h, few) in
-    c .before .before .before .before .before .before .before .weigh .ensures .0 l below ∙ ap₂ (product GF16) (c .before .before .before .before .before .before .before .before .before .before .before .read-changes .ensures l h) (at .inv .4 l below (omega (arith, h, few))) in (
+    weigh .ensures .0 l below ∙ ap₂ (product GF16) (read .ensures l h) (at .inv .4 l below (omega (arith, h, few))) in (
       omega (arith, few),
-      c .before .before .before .before .before .before .before .weigh .kept .1 .0 ∙ at .inv .1,
-      c .before .before .before .before .before .before .before .weigh .kept .0 ∙ c .before .before .before .before .before .before .before .before .before .before .before .read-changes .kept .1 .1 .1 .0 ∙ at .inv .2,
+      weigh .kept .1 .0 ∙ at .inv .1,
+      weigh .kept .0 ∙ read .kept .1 .1 .1 .0 ∙ at .inv .2,
       c .before .before .put-symbols .kept .1 .1 .1 .0 ∙ at .inv .3,
       λ l h inside.
           let below : l < at .i = omega (arith, inside) in
           let down : at .i - 1 - l ≡ at .i - n - 1 - l + 16 = omega (arith, few, inside) in
-          c .before .before .before .before .before .before .before .weigh .ensures .1 l h
+          weigh .ensures .1 l h
           ∙ ap (λ (x : ℕ). product GF16 x (Codes.weight GF16 0 16)) (at .inv .4 l h below ∙ ap (Codes.unweight GF16 0) down)
           ∙ unweight-on GF16 0 GF16-passes (at .i - n - 1 - l) 16,
       c .before .before .put-symbols .ensures (plainly caption) each ∙ at .inv .5,

@@ -65,21 +65,23 @@ loop-less c = omega arith
 
 loop-again : tie.Need-loop-again Inv-loop μ-loop
 loop-again c =
+    let required : _ = c .before .before .before .before .before .before .before .before .before .before .pre in
+    let added : _ = c .before .before .before .before .sum in
     let at : _ = c .before .before .before .before .before .before .before .loop in
     let args : _ = c .before .before .before .before .before .before .before .before .before .before .args in
     let here : ℕ = args .i + at .l in
     let up : args .i + (at .l + 1) ≡ suc here = omega arith in
-    let fits : here * 2 + 2 ≤ length (at .output) = omega (arith, c .before .before .before .before .before .before .before .before .before .before .pre .0, at .inv .1) in
-    let put : c .before .before .put-two-bytes .last .1 .0 ≡ written (at .output) (here * 2) (lowBytes 2 (c .before .before .before .before .sum .result)) = c .before .before .put-two-bytes .ensures ∙ two-bytes-put (c .before .before .before .before .sum .result) (at .output) (here * 2) fits in (
+    let fits : here * 2 + 2 ≤ length (at .output) = omega (arith, required .0, at .inv .1) in
+    let put : c .before .before .put-two-bytes .last .1 .0 ≡ written (at .output) (here * 2) (lowBytes 2 (added .result)) = c .before .before .put-two-bytes .ensures ∙ two-bytes-put (added .result) (at .output) (here * 2) fits in (
       omega arith,
       c .before .before .put-two-bytes .kept .1 .0 ∙ at .inv .1,
       λ code old long from each so.
           let before : _ = at .inv .2 code old long from each so in
-          let room : suc here * 2 ≤ length old = omega (arith, long, c .before .before .before .before .before .before .before .before .before .before .pre .0) in
-          let is : c .before .before .before .before .sum .result ≡ code here = c .before .before .before .before .sum .ensures ∙ ap (λ (x : ℕ). x ⊕ getD (args .block .now) (at .l) 0) (before .0) ∙ each (at .l) (omega arith) in (
+          let room : suc here * 2 ≤ length old = omega (arith, long, required .0) in
+          let is : added .result ≡ code here = added .ensures ∙ ap (λ (x : ℕ). x ⊕ getD (args .block .now) (at .l) 0) (before .0) ∙ each (at .l) (omega arith) in (
             is ∙ ap (previous code) (sym up),
             put
-                ∙ ap (λ (o : List ℕ). written o (here * 2) (lowBytes 2 (c .before .before .before .before .sum .result))) (before .1)
+                ∙ ap (λ (o : List ℕ). written o (here * 2) (lowBytes 2 (added .result))) (before .1)
                 ∙ row-up code old here room is
                 ∙ ap (λ (k : ℕ). written old 0 (bytes k code)) (sym up),
           ),

@@ -56,13 +56,14 @@ loop-less c = omega arith
 
 loop-again : tie.Need-loop-again Inv-loop μ-loop
 loop-again c =
+    let required : _ = c .before .before .before .before .before .before .before .before .before .pre in
     let at : _ = c .before .before .before .before .before .before .loop in
     let args : _ = c .before .before .before .before .before .before .before .before .before .args in
     let here : ℕ = args .i - 1 - at .l in
     let x : ℕ = getD (args .block .now) (at .l) 0 in
-    let up : suc here ≡ args .i - at .l = omega (arith, c .before .before .before .before .before .before .before .before .before .pre .1) in
-    let down : args .i - (at .l + 1) ≡ here = omega (arith, c .before .before .before .before .before .before .before .before .before .pre .1) in
-    let fits : suc here * 2 ≤ length (at .output) = omega (arith, c .before .before .before .before .before .before .before .before .before .pre .0, c .before .before .before .before .before .before .before .before .before .pre .1, at .inv .1) in
+    let up : suc here ≡ args .i - at .l = omega (arith, required .1) in
+    let down : args .i - (at .l + 1) ≡ here = omega (arith, required .1) in
+    let fits : suc here * 2 ≤ length (at .output) = omega (arith, required .0, required .1, at .inv .1) in
     let put : c .before .before .put-two-bytes .last .1 .0 ≡ written (at .output) (here * 2) (lowBytes 2 x) = c .before .before .put-two-bytes .ensures ∙ two-bytes-put x (at .output) (here * 2) (omega (arith, fits)) in (
       omega arith,
       c .before .before .put-two-bytes .kept .1 .0 ∙ at .inv .1,

@@ -28,10 +28,14 @@ sub-here-2 : tie.Need-sub-here-2 Inv-loop μ-loop
 sub-here-2 c = omega (arith, c .before .before .before .before .pre .1)
 
 symbol-at-requires : tie.Need-symbol-at-requires Inv-loop μ-loop
-symbol-at-requires c κs = omega (arith, c .before .before .before .before .pre .0, c .before .before .before .before .pre .1)
+symbol-at-requires c κs =
+    let required : _ = c .before .before .before .before .pre in
+    omega (arith, required .0, required .1)
 
 previous-requires : tie.Need-previous-requires Inv-loop μ-loop
-previous-requires c κs = omega (arith, c .before .before .before .before .before .pre .0, c .before .before .before .before .before .pre .1)
+previous-requires c κs =
+    let required : _ = c .before .before .before .before .before .pre in
+    omega (arith, required .0, required .1)
 
 sum-requires : tie.Need-sum-requires Inv-loop μ-loop
 sum-requires c κs = tt
@@ -50,8 +54,10 @@ loop-less c = omega arith
 
 loop-again : tie.Need-loop-again Inv-loop μ-loop
 loop-again c =
+    let args : _ = c .before .before .before .before .before .before .before .args in
+    let required : _ = c .before .before .before .before .before .before .before .pre in
     let at : _ = c .before .before .before .before .loop in
-    let inside : at .l < length (c .before .before .before .before .before .before .before .args .block .now) = omega (arith, c .before .before .before .before .before .before .before .pre .2) in
+    let inside : at .l < length (args .block .now) = omega (arith, required .2) in
     (omega arith, one-set _ (at .inv .1) inside (c .sum .ensures ∙ ap₂ _⊕_ (c .before .before .symbol-at .ensures) (c .before .previous .ensures)))
 
 same-length : tie.Need-same-length Inv-loop μ-loop
