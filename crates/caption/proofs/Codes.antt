@@ -26,6 +26,10 @@ pub previous-same : (c d : ℕ → ℕ) → ((i : ℕ) → c i ≡ d i) → (i :
 previous-same c d same zero = refl
 previous-same c d same (suc i) = same i
 
+-- a power of α as a weight
+pub as-weight : (F : Field) (x k : ℕ) → product F x (power F α k) ≡ product F x (weight F 0 k)
+as-weight F x k = ap (λ (j : ℕ). product F x (power F α j)) (sym (add-zero k))
+
 module _ (F : Field) (e : ℕ) where
   -- a symbol as it is added to the code
   weighed : (ℕ → ℕ) → ℕ → ℕ
@@ -53,12 +57,6 @@ module _ (F : Field) (e : ℕ) where
     weight-up k = ap (power F α) (sym (suc-add k e))
 
     -- what is weighted is doubled
-    pub weighed-turn : (k : ℕ) {x : ℕ} → Element F x → doubled F (product F x (weight F e k)) ≡ product F x (weight F e (suc k))
-    weighed-turn k {x} h =
-        sym (product-two F (formed F good) (product-element F (formed F good) (weight F e k) h))
-        ∙ product-assoc F (formed F good) h (weight-element k) (α-element F (formed F good))
-        ∙ ap (product F x) (weight-up k)
-
     -- a weight, n symbols on
     pub weight-on : (k n : ℕ) → product F (weight F e k) (weight F 0 n) ≡ weight F e (k + n)
     weight-on k n =

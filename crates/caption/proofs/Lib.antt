@@ -2,7 +2,6 @@
 pub mod Codes
 pub mod Rows
 pub mod Turns
-pub mod Moving
 pub mod Fields
 pub mod Finding
 pub mod Allowing

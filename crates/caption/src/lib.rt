@@ -1,6 +1,4 @@
 // Caption fields in the cumulative code: a field encoded, decoded, and searched for a plain pattern as it stands, without decoding.
-mod blocks;
-
 ghost use mathlib.Core.Bool.{Bool, false};
 ghost use mathlib.Core.List.{List};
 ghost use mathlib.Core.Path.{_≡_};
@@ -89,14 +87,14 @@ fn put_code(caption: &[u8], output: &mut [u8])
 {
     let count = signature::symbols_in(caption).count;
     let mut weights = [0u16; 16];
-    blocks::put_weights(1, &mut weights);
+    weights::put_weights(1, &mut weights);
     let mut block = [0u16; 16];
     let mut sum: u16 = 0;
     let mut i: usize = 0;
     while i < count {
-        let n = blocks::block_of(count - i);
+        let n = weights::least(count - i, 16);
         read_symbols(caption, i, n, &mut block);
-        blocks::weigh(&mut block, &mut weights);
+        weights::weigh(&mut block, &mut weights);
         sum = put_sums(&block, sum, i, n, output);
         i += n;
     }
@@ -144,16 +142,16 @@ fn put_plain(caption: &[u8], output: &mut [u8])
 {
     let all = signature::symbols_in(caption);
     let mut unweights = [0u16; 16];
-    blocks::put_weights(
+    weights::put_weights(
         field::double(field::times_power(1, units::exponent_back(all))),
         &mut unweights,
     );
     let mut block = [0u16; 16];
     let mut i = all.count;
     while i > 0 {
-        let n = blocks::block_of(i);
+        let n = weights::least(i, 16);
         read_changes(caption, i, n, &mut block);
-        blocks::weigh(&mut block, &mut unweights);
+        weights::weigh(&mut block, &mut unweights);
         put_symbols(&block, i, n, output);
         i -= n;
     }
@@ -254,15 +252,15 @@ fn find(caption: &[u8], pattern: &[u8], list: &mut [usize]) -> Listed
     }
     let l = signature::symbols_in(pattern).count;
     let mut weighed = [0u16; 16];
-    blocks::put_weights(signature::own(1, pattern).s1, &mut weighed);
+    weights::put_weights(signature::own(1, pattern).s1, &mut weighed);
     let mut found: usize = 0;
     let mut i: usize = 0;
     while i < count {
-        let n = blocks::block_of(count - i);
+        let n = weights::least(count - i, 16);
         if may_hit(caption, l, &weighed, i, n) {
             found = note(caption, l, &weighed, i, n, list, found);
         }
-        blocks::move_on(&mut weighed);
+        weights::move_on(&mut weighed);
         i += n;
     }
     Listed::Numbers(found)

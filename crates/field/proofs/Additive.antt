@@ -6,9 +6,10 @@ use native.Mathlib.Nat.{mod-lt, zero-mul, one-mul, le-step, lt-suc-self}
 use native.Mathlib.Numerals.{one-add}
 use native.Mathlib.Omega.{arith}
 use lib.Arith.{lt-one}
+use lib.Bits.{xor-shr, xor-mod}
 use lib.Pow.{pow-pos, split, shr-lt}
 use Rattle.field.specs.Field.{_⊕_, scaled}
-use Rattle.field.proofs.Sums.{sum-self, sum-split}
+use Rattle.field.proofs.Sums.{sum-self, sum-cross, sum-shift, sum-split}
 
 abbrev pub Additive : (ℕ → ℕ) → Type 0
 Additive f = (a b : ℕ) → f (a ⊕ b) ≡ f a ⊕ f b
@@ -39,3 +40,29 @@ module _ (f g : ℕ → ℕ) (hf : Additive f) (hg : Additive g) where
 
       bound : a < 2 ^ (1 + n)
       bound = subst (λ (k : ℕ). a < 2 ^ k) (sym (one-add n)) h
+
+-- ---- additive maps from additive maps: shifts, digits cut off, sums of maps and one after another
+
+pub record Adds (f : ℕ → ℕ) : Type 0 where
+  pub adds : Additive f
+
+pub both : {f g : ℕ → ℕ} → Adds f → Adds g → Adds (λ a. f a ⊕ g a)
+both {f} {g} hf hg = record { adds = λ a b. ap₂ _⊕_ (hf .adds a b) (hg .adds a b) ∙ sum-cross (f a) (f b) (g a) (g b) }
+
+pub after : {f g : ℕ → ℕ} → Adds f → Adds g → Adds (λ a. f (g a))
+after {f} {g} hf hg = record { adds = λ a b. ap f (hg .adds a b) ∙ hf .adds (g a) (g b) }
+
+pub same : Adds (λ a. a)
+same = record { adds = λ a b. refl }
+
+pub down : (k : ℕ) → Adds (λ a. a / 2 ^ k)
+unfolding _⊕_
+down k = record { adds = λ a b. xor-shr a b k }
+
+pub low : (w : ℕ) → Adds (λ a. a % 2 ^ w)
+unfolding _⊕_
+low w = record { adds = λ a b. xor-mod a b w }
+
+-- up by k digits, of which w are kept
+pub up : (w k : ℕ) → Adds (λ a. a * 2 ^ k % 2 ^ w)
+up w k = after (low w) (record { adds = sum-shift k })

@@ -1,50 +1,21 @@
 -- The quick reduction is the field's own, by one computed test on the powers of two, since both are additive; and a sum of 64 digits that is shifted by i is
 -- multiplied by α^i.
 -- Assumes nothing.
-use mathlib.Core.Path.{_≡_, refl, sym, ap, ap₂, _∙_, subst}
+use mathlib.Core.Path.{_≡_, sym, ap, _∙_, subst}
 use mathlib.Core.Bool.{Bool}
 use Prim.Native.Nat.{ℕ, zero, suc, _*_, _/_, _%_, _^_, _≤_, _<_}
 use native.Mathlib.Omega.{arith}
 use native.Mathlib.Nat.{mod-eq-of-lt, mod-lt, mul-one, mul-assoc, pow-suc, mul-le-mul-left, lt-of-le-of-lt}
-use lib.Bits.{xor-shr, xor-mod}
 use lib.Dec.{T, eqb, eqb→eq}
 use lib.Pow.{pow-pos}
 use Rattle.field.specs.Field.{GF16, _⊕_, digit, scaled, reduced, doubled, product, power, α}
-use Rattle.field.proofs.Sums.{zero-sum, sum-cross, sum-shift, sum-comm}
-use Rattle.field.proofs.Additive.{Additive, agree}
+use Rattle.field.proofs.Sums.{zero-sum, sum-comm}
+use Rattle.field.proofs.Additive.{Adds, both, after, same, down, low, up, agree}
 use Rattle.field.proofs.Reducing.{reduced-sum, reduced-shift, digit-above}
 use Rattle.field.proofs.Products.{product-element, product-assoc, product-one, product-two}
 use Rattle.field.proofs.Powers.{α-element, α-power}
 use Rattle.field.proofs.Instances.{GF16-formed}
 use Rattle.field.proofs.Tests.{below, at-below}
-
--- ---- additive maps
-
-record Adds (f : ℕ → ℕ) : Type 0 where
-  adds : Additive f
-
-both : {f g : ℕ → ℕ} → Adds f → Adds g → Adds (λ a. f a ⊕ g a)
-both {f} {g} hf hg = record { adds = λ a b. ap₂ _⊕_ (hf .adds a b) (hg .adds a b) ∙ sum-cross (f a) (f b) (g a) (g b) }
-
-after : {f g : ℕ → ℕ} → Adds f → Adds g → Adds (λ a. f (g a))
-after {f} {g} hf hg = record { adds = λ a b. ap f (hg .adds a b) ∙ hf .adds (g a) (g b) }
-
-same : Adds (λ a. a)
-same = record { adds = λ a b. refl }
-
-down : (k : ℕ) → Adds (λ a. a / 2 ^ k)
-unfolding _⊕_
-down k = record { adds = λ a b. xor-shr a b k }
-
-low : (k : ℕ) → Adds (λ a. a % 2 ^ k)
-unfolding _⊕_
-low k = record { adds = λ a b. xor-mod a b k }
-
-shifted : (k : ℕ) → Adds (λ a. a * 2 ^ k)
-shifted k = record { adds = sum-shift k }
-
-up : (k : ℕ) → Adds (λ a. a * 2 ^ k % 2 ^ 64)
-up k = after (low 64) (shifted k)
 
 -- ---- the quick reduction
 
@@ -90,7 +61,7 @@ quick-sum : Adds (λ s. taken-off s (quotient s))
 unfolding taken-off
 quick-sum =
     after (low 16)
-    (both (both (both (both same quotient-sum) (after (up 1) quotient-sum)) (after (up 3) quotient-sum)) (after (up 12) quotient-sum))
+    (both (both (both (both same quotient-sum) (after (up 64 1) quotient-sum)) (after (up 64 3) quotient-sum)) (after (up 64 12) quotient-sum))
 
 quick-at : ℕ → Bool
 quick-at i = eqb (taken-off (2 ^ i) (quotient (2 ^ i))) (reduced GF16 48 (2 ^ i))

@@ -27,7 +27,7 @@ use Rattle.caption.specs.Searches.{searchedOf, searchUnless, placesFor, 
 use Rattle.caption.specs.Codes.{previous, weight, hit}
 use Rattle.caption.proofs.Turns.{again, all-passed}
 use Rattle.caption.proofs.Allowing.{place-inside}
-use Rattle.caption.proofs.Codes.{weight-element, weight-on}
+use Rattle.caption.proofs.Codes.{as-weight, weight-element, weight-on}
 use Rattle.caption.proofs.find.Statement.{statement}
 use Rattle.caption.proofs.find.Tie as tie
 
@@ -90,16 +90,17 @@ loop-holds c = (
   omega arith,
   c .before .put-weights .kept .1 .0,
   λ some k h.
-      c .before .put-weights .ensures k h
+      c .before .put-weights .ensures .done k h
+      ∙ as-weight GF16 _ k
       ∙ ap₂ (λ (x j : ℕ). product GF16 x (weight GF16 0 j)) (ap (λ (s : Signature). s .s1) (c .before .before .before .own .ensures)) (sym (zero-add k)),
   none-noted,
 )
 
-sub-block-of : tie.Need-sub-block-of Inv-loop μ-loop
-sub-block-of c = omega arith
+sub-least : tie.Need-sub-least Inv-loop μ-loop
+sub-least c = omega arith
 
-block-of-requires : tie.Need-block-of-requires Inv-loop μ-loop
-block-of-requires c κs = tt
+least-requires : tie.Need-least-requires Inv-loop μ-loop
+least-requires c κs = tt
 
 slice-aggregate-may-hit : tie.Need-slice-aggregate-may-hit Inv-loop μ-loop
 slice-aggregate-may-hit c = search needs
@@ -110,7 +111,7 @@ may-hit-requires c κs =
     let counted : _ = c .before .before .before .before .before .before .before .before .before .before .places in
     let symbols-in : _ = c .before .before .before .before .before .before .before .before .symbols-in in
     let args : _ = c .before .before .before .before .before .before .before .before .before .before .before .before .before .before .args in
-    (block-inside (args .caption .now) (args .pattern .now) (required .0) (counted .ensures) (symbols-in .ensures) (c .before .before .loop-test .taken) (c .before .block-of .ensures), omega (arith, c .before .block-of .ensures, c .before .before .before .loop .inv .1))
+    (block-inside (args .caption .now) (args .pattern .now) (required .0) (counted .ensures) (symbols-in .ensures) (c .before .before .loop-test .taken) (c .before .least .ensures), omega (arith, c .before .least .ensures, c .before .before .before .loop .inv .1))
 
 slice-aggregate-note : tie.Need-slice-aggregate-note Inv-loop μ-loop
 slice-aggregate-note c = search needs
@@ -121,12 +122,12 @@ note-requires c κs =
     let counted : _ = c .before .before .before .before .before .before .before .before .before .before .before .before .before .before .places in
     let symbols-in : _ = c .before .before .before .before .before .before .before .before .before .before .before .before .symbols-in in
     let loop-test : _ = c .before .before .before .before .before .before .loop-test in
-    let block-of : _ = c .before .before .before .before .before .block-of in
+    let least : _ = c .before .before .before .before .before .least in
     let args : _ = c .before .before .before .before .before .before .before .before .before .before .before .before .before .before .before .before .before .before .args in
     let at : _ = c .before .before .before .before .before .before .before .loop in (
-      block-inside (args .caption .now) (args .pattern .now) (required .0) (counted .ensures) (symbols-in .ensures) (loop-test .taken) (block-of .ensures),
-      omega (arith, block-of .ensures, at .inv .1),
-      omega (arith, block-of .ensures, counted .ensures, noted-length (at .inv .3) (omega (arith, at .inv .0, required .1)), required .1),
+      block-inside (args .caption .now) (args .pattern .now) (required .0) (counted .ensures) (symbols-in .ensures) (loop-test .taken) (least .ensures),
+      omega (arith, least .ensures, at .inv .1),
+      omega (arith, least .ensures, counted .ensures, noted-length (at .inv .3) (omega (arith, at .inv .0, required .1)), required .1),
       noted-below (at .inv .3),
     )
 
@@ -134,16 +135,16 @@ slice-aggregate-move-on : tie.Need-slice-aggregate-move-on Inv-loop μ-loop
 slice-aggregate-move-on c = search needs
 
 move-on-requires : tie.Need-move-on-requires Inv-loop μ-loop
-move-on-requires c κs = c .before .before .before .before .before .before .loop .inv .1
+move-on-requires c κs = tt
 
 add-i : tie.Need-add-i Inv-loop μ-loop
-add-i c = omega (arith, c .before .before .before .before .before .before .block-of .ensures)
+add-i c = omega (arith, c .before .before .before .before .before .before .least .ensures)
 
 loop-less : tie.Need-loop-less Inv-loop μ-loop
 loop-less c =
     let counted : _ = c .before .before .before .before .before .before .before .before .before .before .before .before .before .before .before .places in
-    let block-of : _ = c .before .before .before .before .before .before .block-of in
-    omega (arith, block-of .ensures, counted .ensures)
+    let least : _ = c .before .before .before .before .before .before .least in
+    omega (arith, least .ensures, counted .ensures)
 
 loop-again : tie.Need-loop-again Inv-loop μ-loop
 unfolding hitting hit
@@ -152,15 +153,15 @@ loop-again c =
     let shared-slice-known2 : _ = c .before .before .before .before .before .before .before .before .before .before .before .before .before .before .before .before .before .shared-slice-known2 in
     let counted : _ = c .before .before .before .before .before .before .before .before .before .before .before .before .before .before .before .places in
     let symbols-in : _ = c .before .before .before .before .before .before .before .before .before .before .before .before .before .symbols-in in
-    let block-of : _ = c .before .before .before .before .before .before .block-of in
+    let least : _ = c .before .before .before .before .before .before .least in
     let may-hit : _ = c .before .before .before .before .may-hit in
     let args : _ = c .before .before .before .before .before .before .before .before .before .before .before .before .before .before .before .before .before .before .before .args in
     let at : _ = c .before .before .before .before .before .before .before .before .loop in
     let caption : List ℕ = args .caption .now in
     let pattern : List ℕ = args .pattern .now in
     let code : ℕ → ℕ = symbol 2 caption in
-    let n : ℕ = block-of .result in
-    let few : n ≡ min (counted .result - at .i) 16 = block-of .ensures in
+    let n : ℕ = least .result in
+    let few : n ≡ min (counted .result - at .i) 16 = least .ensures in
     let inside : at .i < placesFor caption pattern = omega (arith, counted .ensures) in
     let long : length (args .list .now) ≡ length (at .list) = sym (noted-length (at .inv .3) (omega (arith, at .inv .0, required .1))) in
     let each : (k : ℕ) → k < n → hitting caption pattern (at .i + k) ≡ eqb (previous code (at .i + k + symbols-in .result .count) ⊕ previous code (at .i + k)) (getD (at .weighed) k 0) =
@@ -169,7 +170,7 @@ loop-again c =
       c .before .move-on .kept .0 ∙ at .inv .1,
       λ more k h.
           let on : at .i + k + 16 ≡ at .i + n + k = omega (arith, few, more, counted .ensures) in
-          c .before .move-on .ensures k h
+          c .before .move-on .ensures .done k (omega (arith, h, at .inv .1))
           ∙ ap (λ (x : ℕ). product GF16 x (weight GF16 0 16)) (at .inv .2 inside k h)
           ∙ product-assoc GF16 GF16-formed (signed pattern (λ j. shared-slice-known2 .given j .fits)) (weight-element GF16 0 GF16-passes (at .i + k)) (weight-element GF16 0 GF16-passes 16)
           ∙ ap (product GF16 (signature GF16 2 pattern 1)) (weight-on GF16 0 GF16-passes (at .i + k) 16 ∙ ap (weight GF16 0) on),
@@ -207,8 +208,8 @@ find-spec =
     slice-aggregate-put-weights
     put-weights-requires
     loop-holds
-    sub-block-of
-    block-of-requires
+    sub-least
+    least-requires
     slice-aggregate-may-hit
     may-hit-requires
     slice-aggregate-note

@@ -15,8 +15,9 @@ use Rattle.signature.specs.Objects.{symbol, symbols}
 use Rattle.caption.specs.Codes as Codes
 use Rattle.caption.specs.Codes.{previous, coded}
 use Rattle.caption.specs.Recoding.{bytes, encoded}
-use Rattle.caption.proofs.Codes.{weight-element, weight-on, code-turn}
+use Rattle.caption.proofs.Codes.{as-weight, weight-element, weight-on, code-turn}
 use Rattle.caption.proofs.Rows.{row-none}
+use Rattle.weights.proofs.Turns.{in-both}
 use Rattle.caption.proofs.put_code.Statement.{statement}
 use Rattle.caption.proofs.put_code.Tie as tie
 
@@ -49,16 +50,16 @@ loop-holds c =
       c .before .put-weights .kept .1 .0,
       refl,
       refl,
-      λ some l h. c .before .put-weights .ensures l h ∙ one-product GF16 GF16-formed (weight-element GF16 0 GF16-passes l) ∙ ap (Codes.weight GF16 0) (sym (zero-add l)),
+      λ some l h. c .before .put-weights .ensures .done l h ∙ as-weight GF16 _ l ∙ one-product GF16 GF16-formed (weight-element GF16 0 GF16-passes l) ∙ ap (Codes.weight GF16 0) (sym (zero-add l)),
       refl,
       sym (row-none (code (args .caption .now)) (args .output .now)),
     )
 
-sub-block-of : tie.Need-sub-block-of Inv-loop μ-loop
-sub-block-of c = omega (arith, c .before .before .before .before .before .symbols-in .ensures)
+sub-least : tie.Need-sub-least Inv-loop μ-loop
+sub-least c = omega (arith, c .before .before .before .before .before .symbols-in .ensures)
 
-block-of-requires : tie.Need-block-of-requires Inv-loop μ-loop
-block-of-requires c κs = tt
+least-requires : tie.Need-least-requires Inv-loop μ-loop
+least-requires c κs = tt
 
 slice-aggregate-read-symbols : tie.Need-slice-aggregate-read-symbols Inv-loop μ-loop
 slice-aggregate-read-symbols c = search needs
@@ -91,7 +92,7 @@ loop-again : tie.Need-loop-again Inv-loop μ-loop
 unfolding code
 loop-again c =
     let symbols-in : _ = c .before .before .before .before .before .before .before .before .before .before .before .before .before .before .before .before .before .before .before .symbols-in in
-    let block-of : _ = c .before .before .before .before .before .before .before .before .before .before .before .before .before .block-of in
+    let least : _ = c .before .before .before .before .before .before .before .before .before .before .before .before .before .least in
     let read : _ = c .before .before .before .before .before .before .before .before .before .before .before .read-symbols in
     let weigh : _ = c .before .before .before .before .before .before .before .weigh in
     let at : _ = c .before .before .before .before .before .before .before .before .before .before .before .before .before .before .before .loop in
@@ -99,12 +100,12 @@ loop-again c =
     let caption : List ℕ = args .caption .now in
     let count : symbols-in .result .count ≡ symbols 2 caption = symbols-in .ensures in
     let inside : at .i < symbols 2 caption = omega arith in
-    let n : ℕ = block-of .result in
-    let few : n ≡ min (symbols 2 caption - at .i) 16 = block-of .ensures ∙ ap (λ (k : ℕ). min (k - at .i) 16) count in
+    let n : ℕ = least .result in
+    let few : n ≡ min (symbols 2 caption - at .i) 16 = least .ensures ∙ ap (λ (k : ℕ). min (k - at .i) 16) count in
     let each : (l : ℕ) → l < n → previous (code caption) (at .i + l) ⊕ getD (weigh .last .0) l 0 ≡ code caption (at .i + l) =
     λ l h.
     let below : l < 16 = omega (arith, h, few) in
-    ap (λ (x : ℕ). previous (code caption) (at .i + l) ⊕ x) (weigh .ensures .0 l below ∙ ap₂ (product GF16) (read .ensures l h) (at .inv .4 inside l below))
+    ap (λ (x : ℕ). previous (code caption) (at .i + l) ⊕ x) (weigh .ensures .0 .done l (in-both (read .kept .1 .1 .1 .0 ∙ at .inv .2) (at .inv .1) below) ∙ ap₂ (product GF16) (read .ensures l h) (at .inv .4 inside l below))
     ∙ code-turn GF16 0 (symbol 2 caption) (at .i + l) in
     let next : _ = c .before .before .put-sums .ensures (code caption) (args .output .now) (sym (at .inv .3)) (at .inv .5) each (at .inv .6) in (
       omega (arith, few),
@@ -113,7 +114,7 @@ loop-again c =
       c .before .before .put-sums .kept .1 .1 .1 .1 .0 ∙ at .inv .3,
       λ more l h.
           let on : at .i + l + 16 ≡ at .i + n + l = omega (arith, few, more) in
-          weigh .ensures .1 l h
+          weigh .ensures .1 .done l (in-both (read .kept .1 .1 .1 .0 ∙ at .inv .2) (at .inv .1) h)
           ∙ ap (λ (x : ℕ). product GF16 x (Codes.weight GF16 0 16)) (at .inv .4 inside l h)
           ∙ weight-on GF16 0 GF16-passes (at .i + l) 16
           ∙ ap (Codes.weight GF16 0) on,
@@ -143,8 +144,8 @@ put-code-spec =
     slice-aggregate-put-weights
     put-weights-requires
     loop-holds
-    sub-block-of
-    block-of-requires
+    sub-least
+    least-requires
     slice-aggregate-read-symbols
     read-symbols-requires
     slice-aggregate-weigh

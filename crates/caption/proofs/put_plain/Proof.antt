@@ -16,8 +16,9 @@ use Rattle.signature.specs.Objects.{symbol, symbols}
 use Rattle.caption.specs.Codes as Codes
 use Rattle.caption.specs.Codes.{plain}
 use Rattle.caption.specs.Recoding.{bytes, decoded}
-use Rattle.caption.proofs.Codes.{unweight-turn, unweight-on}
+use Rattle.caption.proofs.Codes.{as-weight, unweight-turn, unweight-on}
 use Rattle.caption.proofs.Rows.{row-none}
+use Rattle.weights.proofs.Turns.{in-both}
 use Rattle.caption.proofs.put_plain.Statement.{statement}
 use Rattle.caption.proofs.put_plain.Tie as tie
 
@@ -71,15 +72,16 @@ loop-holds c =
       refl,
       λ l h inside.
           let up : count ≡ suc (count - 1 - l + l) = omega (arith, inside) in
-          c .before .put-weights .ensures l h
+          c .before .put-weights .ensures .done l h
+          ∙ as-weight GF16 _ l
           ∙ ap (λ (x : ℕ). product GF16 x (Codes.weight GF16 0 l))
           (c .before .before .before .double .ensures ∙ ap (doubled GF16) (top ∙ ap (Codes.unweight GF16 0) up) ∙ unweight-turn GF16 0 GF16-passes (count - 1 - l + l))
           ∙ unweight-on GF16 0 GF16-passes (count - 1 - l) l,
       ap (λ (k : ℕ). written (args .output .now) 0 (bytes k (plainly (args .caption .now)))) all,
     )
 
-block-of-requires : tie.Need-block-of-requires Inv-loop μ-loop
-block-of-requires c κs = tt
+least-requires : tie.Need-least-requires Inv-loop μ-loop
+least-requires c κs = tt
 
 slice-aggregate-read-changes : tie.Need-slice-aggregate-read-changes Inv-loop μ-loop
 slice-aggregate-read-changes c = search needs
@@ -111,18 +113,18 @@ loop-less c = search needs
 loop-again : tie.Need-loop-again Inv-loop μ-loop
 unfolding plainly plain
 loop-again c =
-    let block-of : _ = c .before .before .before .before .before .before .before .before .before .before .before .before .before .block-of in
+    let least : _ = c .before .before .before .before .before .before .before .before .before .before .before .before .before .least in
     let read : _ = c .before .before .before .before .before .before .before .before .before .before .before .read-changes in
     let weigh : _ = c .before .before .before .before .before .before .before .weigh in
     let at : _ = c .before .before .before .before .before .before .before .before .before .before .before .before .before .before .before .loop in
     let args : _ = c .before .before .before .before .before .before .before .before .before .before .before .before .before .before .before .before .before .before .before .before .before .before .before .before .before .args in
     let caption : List ℕ = args .caption .now in
-    let n : ℕ = block-of .result in
-    let few : n ≡ min (at .i) 16 = block-of .ensures in
+    let n : ℕ = least .result in
+    let few : n ≡ min (at .i) 16 = least .ensures in
     let each : (l : ℕ) → l < n → getD (weigh .last .0) l 0 ≡ plainly caption (at .i - 1 - l) =
     λ l h.
     let below : l < 16 = omega (arith, h, few) in
-    weigh .ensures .0 l below ∙ ap₂ (product GF16) (read .ensures l h) (at .inv .4 l below (omega (arith, h, few))) in (
+    weigh .ensures .0 .done l (in-both (read .kept .1 .1 .1 .0 ∙ at .inv .2) (at .inv .1) below) ∙ ap₂ (product GF16) (read .ensures l h) (at .inv .4 l below (omega (arith, h, few))) in (
       omega (arith, few),
       weigh .kept .1 .0 ∙ at .inv .1,
       weigh .kept .0 ∙ read .kept .1 .1 .1 .0 ∙ at .inv .2,
@@ -130,7 +132,7 @@ loop-again c =
       λ l h inside.
           let below : l < at .i = omega (arith, inside) in
           let down : at .i - 1 - l ≡ at .i - n - 1 - l + 16 = omega (arith, few, inside) in
-          weigh .ensures .1 l h
+          weigh .ensures .1 .done l (in-both (read .kept .1 .1 .1 .0 ∙ at .inv .2) (at .inv .1) h)
           ∙ ap (λ (x : ℕ). product GF16 x (Codes.weight GF16 0 16)) (at .inv .4 l h below ∙ ap (Codes.unweight GF16 0) down)
           ∙ unweight-on GF16 0 GF16-passes (at .i - n - 1 - l) 16,
       c .before .before .put-symbols .ensures (plainly caption) each ∙ at .inv .5,
@@ -162,7 +164,7 @@ put-plain-spec =
     slice-aggregate-put-weights
     put-weights-requires
     loop-holds
-    block-of-requires
+    least-requires
     slice-aggregate-read-changes
     read-changes-requires
     slice-aggregate-weigh

@@ -7,7 +7,8 @@ use lib.ListN.{length}
 use Rattle.field.specs.Field.{_⊕_}
 use Rattle.signature.specs.Objects.{symbol}
 use Rattle.caption.specs.Codes.{previous}
-use Rattle.caption.proofs.Turns.{Set, none-set, one-set}
+use Rattle.weights.specs.Blocks.{Set}
+use Rattle.weights.proofs.Turns.{none-set, one-set}
 use Rattle.caption.proofs.read_changes.Statement.{statement}
 use Rattle.caption.proofs.read_changes.Tie as tie
 

@@ -4,7 +4,8 @@ use Prim.Native.Nat.{_+_, _-_, _≤_, _<_}
 use native.Mathlib.Omega.{arith}
 use lib.ListN.{length}
 use Rattle.signature.specs.Objects.{symbol}
-use Rattle.caption.proofs.Turns.{Set, none-set, one-set}
+use Rattle.weights.specs.Blocks.{Set}
+use Rattle.weights.proofs.Turns.{none-set, one-set}
 use Rattle.caption.proofs.read_symbols.Statement.{statement}
 use Rattle.caption.proofs.read_symbols.Tie as tie
 

@@ -1,25 +1,24 @@
--- `caption::blocks::put_weights` meets its contract. The invariant: the weights before l are put, and the next is at hand.
+-- `weights::put_weights` meets its contract. The invariant: the weights before l are put, and the next is at hand.
 -- Assumes nothing.
-use mathlib.Core.Path.{_≡_, sym, ap, _∙_}
+use mathlib.Core.Path.{_≡_, sym, ap, _∙_, subst}
 use Prim.Native.Nat.{ℕ, _-_, _≤_, _<_}
 use native.Mathlib.Omega.{arith}
 use native.Mathlib.Numerals.{add-one}
 use lib.ListN.{length}
 use borrow.Author.Needs.{needs}
-use Rattle.field.proofs.Instances.{GF16-passes, GF16-formed}
+use Rattle.field.proofs.Instances.{GF16-formed}
 use Rattle.field.proofs.Powers.{power-zero}
 use Rattle.field.proofs.Products.{product-one}
-use Rattle.field.specs.Field.{GF16, product, doubled, α}
-use Rattle.caption.specs.Codes as Codes
-use Rattle.caption.proofs.Turns.{Set, none-set, one-set}
-use Rattle.caption.proofs.Codes.{weighed-turn}
-use Rattle.caption.proofs.blocks.put_weights.Statement.{statement}
-use Rattle.caption.proofs.blocks.put_weights.Tie as tie
+use Rattle.field.specs.Field.{GF16, product, power, doubled, α}
+use Rattle.weights.proofs.Turns.{none-set, one-set, doubled-turn}
+use Rattle.weights.specs.Blocks.{Set}
+use Rattle.weights.proofs.put_weights.Statement.{statement}
+use Rattle.weights.proofs.put_weights.Tie as tie
 
 abbrev Inv-loop : tie.InvT-loop
 Inv-loop first weights₀ weight₀ l₀ weights weight l =
-    (l ≤ length weights₀) × Set (λ k. product GF16 first (Codes.weight GF16 0 k)) weights₀ l weights
-    × (weight ≡ product GF16 first (Codes.weight GF16 0 l))
+    (l ≤ length weights₀) × Set (λ k. product GF16 first (power GF16 α k)) weights₀ l weights
+    × (weight ≡ product GF16 first (power GF16 α l))
 
 abbrev μ-loop : tie.MeasureT-loop
 μ-loop first weights₀ weight₀ l₀ weights weight l = length weights₀ - l
@@ -56,15 +55,19 @@ loop-again c =
       one-set (at .weight) (at .inv .1) inside (at .inv .2),
       c .double .ensures
           ∙ ap (doubled GF16) (at .inv .2)
-          ∙ weighed-turn GF16 0 GF16-passes (at .l) (omega arith)
-          ∙ ap (λ (k : ℕ). product GF16 (args .first) (Codes.weight GF16 0 k)) (sym (add-one (at .l))),
+          ∙ doubled-turn (at .l) (omega arith)
+          ∙ ap (λ (k : ℕ). product GF16 (args .first) (power GF16 α k)) (sym (add-one (at .l))),
     )
 
 same-length : tie.Need-same-length Inv-loop μ-loop
 same-length c = c .before .loop .inv .1 .long
 
 returns : tie.Need-returns Inv-loop μ-loop
-returns c = λ l h. c .before .loop .inv .1 .done l (omega (arith, h, c .before .loop .inv .1 .long))
+returns c =
+    let at : _ = c .before .loop in
+    let args : _ = c .before .before .before .args in
+    let all : at .l ≡ length (args .weights .now) = omega (arith, at .inv .1 .long) in
+    subst (λ (l : ℕ). Set (λ k. product GF16 (args .first) (power GF16 α k)) (args .weights .now) l (at .weights)) all (at .inv .1)
 
 pub put-weights-spec : {M : Type 1} → statement M
 put-weights-spec =

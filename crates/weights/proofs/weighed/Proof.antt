@@ -1,4 +1,4 @@
--- `caption::blocks::weighed` meets its contract. The invariant: r and the product of what is left sum to the product that is asked for, and x is the weight so many symbols on.
+-- `weights::weighed` meets its contract. The invariant: r and the product of what is left sum to the product that is asked for, and x is the weight so many symbols on.
 -- Assumes nothing.
 use mathlib.Core.Path.{_≡_, sym, ap, ap₂, _∙_}
 use Prim.Native.Nat.{ℕ, _-_, _/_, _%_, _^_, _≤_, _<_}
@@ -6,21 +6,19 @@ use native.Mathlib.Omega.{arith}
 use native.Mathlib.Numerals.{add-one}
 use native.Mathlib.Nat.{div-one}
 use lib.Pow.{shr-le, shr-shr}
-use Rattle.field.proofs.Instances.{GF16-passes, GF16-formed}
+use Rattle.field.proofs.Instances.{GF16-formed}
 use Rattle.field.proofs.Powers.{power-zero, product-zero, product-turn}
 use Rattle.field.proofs.Products.{product-comm, product-one}
 use Rattle.field.proofs.Sums.{zero-sum, sum-zero}
-use Rattle.field.specs.Field.{GF16, _⊕_, scaled, product, doubled, α}
-use Rattle.caption.specs.Codes as Codes
-use Rattle.caption.proofs.Turns.{digit-scaled, digit-le}
-use Rattle.caption.proofs.Codes.{weighed-turn}
-use Rattle.caption.proofs.blocks.weighed.Statement.{statement}
-use Rattle.caption.proofs.blocks.weighed.Tie as tie
+use Rattle.field.specs.Field.{GF16, _⊕_, scaled, product, power, doubled, α}
+use Rattle.weights.proofs.Turns.{digit-scaled, digit-le, doubled-turn}
+use Rattle.weights.proofs.weighed.Statement.{statement}
+use Rattle.weights.proofs.weighed.Tie as tie
 
 abbrev Inv-loop : tie.InvT-loop
 Inv-loop symbol weight r₀ x₀ y₀ turn₀ r x y turn =
     (turn ≤ 16) × (x < 65536) × (y ≡ symbol / 2 ^ turn) × (r ⊕ product GF16 x y ≡ product GF16 weight symbol)
-    × (x ≡ product GF16 weight (Codes.weight GF16 0 turn))
+    × (x ≡ product GF16 weight (power GF16 α turn))
 
 abbrev μ-loop : tie.MeasureT-loop
 μ-loop symbol weight r₀ x₀ y₀ turn₀ r x y turn = 16 - turn
@@ -65,8 +63,8 @@ loop-again c =
       ap₂ (λ (n x : ℕ). n ⊕ product GF16 x (at .y / 2)) part twice ∙ product-turn GF16 GF16-formed (at .r) (at .inv .1) small ∙ at .inv .3,
       twice
           ∙ ap (doubled GF16) (at .inv .4)
-          ∙ weighed-turn GF16 0 GF16-passes (at .turn) (omega arith)
-          ∙ ap (λ (k : ℕ). product GF16 (args .weight) (Codes.weight GF16 0 k)) (sym (add-one (at .turn))),
+          ∙ doubled-turn (at .turn) (omega arith)
+          ∙ ap (λ (k : ℕ). product GF16 (args .weight) (power GF16 α k)) (sym (add-one (at .turn))),
     )
 
 returns : tie.Need-returns Inv-loop μ-loop
@@ -79,7 +77,7 @@ returns c =
           ∙ ap (λ (n : ℕ). at .r ⊕ n) (sym (product-zero GF16 GF16-formed (at .x)) ∙ ap (product GF16 (at .x)) (sym none))
           ∙ at .inv .3
           ∙ product-comm GF16 GF16-formed (omega arith) (omega arith),
-      at .inv .4 ∙ ap (λ (k : ℕ). product GF16 (args .weight) (Codes.weight GF16 0 k)) all,
+      at .inv .4 ∙ ap (λ (k : ℕ). product GF16 (args .weight) (power GF16 α k)) all,
     )
 
 pub weighed-spec : {M : Type 1} → statement M

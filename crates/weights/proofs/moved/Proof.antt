@@ -1,10 +1,10 @@
--- `caption::blocks::moved` meets its contract: the quick way is the product.
+-- `weights::moved` meets its contract: the quick way is the product.
 -- Assumes nothing.
 use native.Mathlib.Omega.{arith}
 use Rattle.field.specs.Field.{_⊕_}
-use Rattle.caption.proofs.Moving.{first, quotient, taken-off, quick}
-use Rattle.caption.proofs.blocks.moved.Statement.{statement}
-use Rattle.caption.proofs.blocks.moved.Tie as tie
+use Rattle.weights.proofs.Moving.{first, quotient, taken-off, quick}
+use Rattle.weights.proofs.moved.Statement.{statement}
+use Rattle.weights.proofs.moved.Tie as tie
 
 returns : tie.Need-returns
 unfolding first quotient taken-off _⊕_

@@ -1,0 +1,4 @@
+-- The laws of a block and its weights.
+pub mod Turns
+pub mod Moving
+pub mod Answers

@@ -1,0 +1,2 @@
+-- What the contracts of `weights` cite.
+pub mod Blocks
