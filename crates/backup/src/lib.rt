@@ -1,4 +1,6 @@
 // A bucket's backup, image and map, as every store and load meets it: whether the two may be used, and whether two signatures are the same.
+#![tactic(auto)]
+
 ghost use Rattle.std.specs.Prelude.{◌≡◌, [], ◌∷◌};
 ghost use Rattle.backup.specs.Openings.{opening, match_test, opened};
 ghost use Rattle.backup.specs.Backups.{same as backup_same};
@@ -8,7 +10,7 @@ use map::{Header, Reading};
 use signature::Signature;
 use units::{Bytes, Refusal};
 
-#[derive(Drop)]
+#[derive(Clone, Copy)]
 pub enum Opening {
     Open(Header),
     Refused(Refusal),

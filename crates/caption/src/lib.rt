@@ -1,4 +1,6 @@
 // Caption fields in the cumulative code: a field encoded, decoded, and searched for a plain pattern as it stands, without decoding.
+#![tactic(auto)]
+
 ghost use Rattle.std.specs.Prelude.{Bool, false, List, ◌≡◌, ℕ, ◌+◌, ◌-◌, ◌*◌, ◌%◌, ◌≤◌, ◌<◌, eqb, length, get_or};
 ghost use Rattle.units.specs.Filling.{outcome_of};
 ghost use Rattle.units.specs.Naming.{named};

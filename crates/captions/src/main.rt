@@ -1,11 +1,13 @@
 // Runs a script on one caption field. A command on standard input is four bytes: a letter and a number of three bytes, low byte first. Each that asks
 // something of the library prints the answer and two parts of the buffer that was written, its start and where the field or the count ends.
 // Of a buffer that is shorter than asked for, all is lent.
+#![tactic(auto)]
+
 use libc::STDIN_FILENO;
 use units::Listed;
 
 // How much of each buffer is lent.
-#[derive(Drop)]
+#[derive(Clone, Copy)]
 struct Lent {
     caption: usize,
     pattern: usize,

@@ -1,5 +1,7 @@
 // Runs the scope's twelve cases: what was answered, or a refusal's number and value, and then what the output or the list holds.
 // The file `stdout` beside this has what the scope says they should be.
+#![tactic(auto)]
+
 use units::{Bytes, Symbols};
 
 fn main() {

@@ -2,7 +2,7 @@
 -- Assumes nothing.
 use mathlib.Core.Path.{◌≡◌, sym, ap, ◌∙◌}
 use mathlib.Core.Bool.{Bool}
-use Prim.Native.Nat.{ℕ, suc, ◌-◌, ◌*◌, ◌≤◌}
+use Prim.Native.Nat.{ℕ, zero, suc, ◌-◌, ◌*◌, ◌≤◌}
 use native.Mathlib.Nat.{mul-le-mul_right, mul-le-mul_left, le_trans}
 use native.Mathlib.Omega.{arith}
 use lib.Dec.{T, leb, eqb, leb→le, le→leb, eqb→eq}
@@ -40,6 +40,7 @@ pub record Keeps (n : ℕ) (R : Relation) : Type 0 where
   pub each : T (below (λ i. at R (suc i)) n)
 
 pub keeps_holds : (n : ℕ) (R : Relation) → Keeps n R → (j : ℕ) → 1 ≤ j → j ≤ n → Holds R j
+keeps_holds n R keeps zero one h = elim one [ ]
 keeps_holds n R keeps (suc i) one h =
     holds R (suc i)
     (record {

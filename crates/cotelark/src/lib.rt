@@ -1,4 +1,6 @@
 // The C interface: each operation under its C name, on numbers and slices. include/cotelark.h says the same to a C compiler.
+#![tactic(auto)]
+
 mod replies;
 
 ghost use Rattle.std.specs.Prelude.{◌≡◌};

@@ -1,5 +1,7 @@
 // Runs the edges of signing, joining and editing, a line each: n and four components, or a refusal's number and value.
 // The file `stdout` beside this has what they should be, from a program with tables of logarithms.
+#![tactic(auto)]
+
 use signature::Signature;
 use units::Symbols;
 

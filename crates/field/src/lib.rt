@@ -1,4 +1,6 @@
 // The arithmetic of GF(2^16): a symbol is a binary polynomial, and products are reduced by 1100B hex.
+#![tactic(auto)]
+
 ghost use Rattle.std.specs.Prelude.{◌≡◌, ◌<◌};
 ghost use Rattle.field.specs.Field.{GF16, α, ◌⊕◌};
 ghost use Rattle.field.specs.Field.{doubled as field_doubled, scaled as field_scaled, product as field_product, power as field_power};

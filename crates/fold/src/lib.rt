@@ -1,4 +1,6 @@
 // The components of an object, without a product: a relation of α folds it by exclusive or alone until few symbols are left, and those are divided in words.
+#![tactic(auto)]
+
 ghost use Rattle.std.specs.Prelude.{◌≡◌, ℕ, ◌+◌, ◌-◌, ◌≤◌, ◌<◌, length, get_or, take};
 ghost use Rattle.components.specs.Relations.{gathered, in_bytes, pair_far, four_far};
 ghost use Rattle.components.specs.Windows.{Down, Landed, Raised};
@@ -10,7 +12,7 @@ ghost use Rattle.fold.specs.Folding.{known, reach, Fits, Kept, Added};
 use words::{Four, Two};
 
 // Relations of α, for two components and for four.
-#[derive(Drop)]
+#[derive(Clone, Copy)]
 pub enum Relation {
     PairFar,
     FourFar,

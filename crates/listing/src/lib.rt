@@ -1,4 +1,6 @@
 // The listing of a map as text: what it holds, line by line, or where it is refused.
+#![tactic(auto)]
+
 ghost use Rattle.std.specs.Prelude.{◌≡◌, ◌++◌, ◌+◌, ◌*◌, ◌<◌, ◌≤◌, length};
 ghost use Rattle.units.specs.Writing.{written, put_of, put};
 ghost use Rattle.units.specs.Filling.{outcome_of};

@@ -1,4 +1,6 @@
 // Loading from a backup: a page as the caller's own image bytes, or the whole bucket. Nothing damaged is handed out.
+#![tactic(auto)]
+
 ghost use Rattle.std.specs.Prelude.{◌≡◌, length};
 ghost use Rattle.units.specs.Filling.{outcome_of};
 ghost use Rattle.map.specs.Reading.{header_of, entry_at};

@@ -1,4 +1,6 @@
 // The signature map of a bucket: its file read field by field, one entry read and written, and the whole map made.
+#![tactic(auto)]
+
 mod making;
 
 ghost use Rattle.std.specs.Prelude.{◌≡◌, ◌&&◌, ◌+◌, ◌*◌, ◌^◌, ◌≤◌, ◌<◌, min, length};
@@ -17,7 +19,7 @@ use units::Bytes;
 // The three fields before the first entry.
 pub const HEADER_BYTES: usize = 18;
 
-#[derive(Drop)]
+#[derive(Clone, Copy)]
 pub struct Header {
     pub n: usize,
     pub page: Bytes,
@@ -25,13 +27,13 @@ pub struct Header {
 }
 
 // One page's field: its tag, and the page's components.
-#[derive(Drop)]
+#[derive(Clone, Copy)]
 pub struct Entry {
     pub tag: u8,
     pub signature: Signature,
 }
 
-#[derive(Drop)]
+#[derive(Clone, Copy)]
 pub enum Reading {
     Holds(Header),
     // the place of the first break

@@ -1,4 +1,6 @@
 // Lists the map that stands on standard input: one byte more than the longest map is enough for any verdict.
+#![tactic(auto)]
+
 use libc::{STDIN_FILENO, STDOUT_FILENO};
 use units::Filled;
 

@@ -1,5 +1,7 @@
 // Makes maps, two lines each: the bytes written, or a refusal's number and value, and then the output's first 40 bytes, which were EE hex.
 // The file `stdout` beside this has what they should be, from a program with tables of logarithms.
+#![tactic(auto)]
+
 use units::Bytes;
 
 fn main() {

@@ -1,5 +1,7 @@
 // What the programs share: a part of a buffer that is lent, and what they print. A function that prints answers nothing, and its contract says so: what was
 // printed is compared when the program is run.
+#![tactic(auto)]
+
 ghost use Rattle.std.specs.Prelude.{◌≡◌, ◌≤◌, min};
 
 use libc::STDOUT_FILENO;

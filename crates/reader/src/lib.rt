@@ -1,4 +1,6 @@
 // One field of a map, read by its tag's rule, and the reader that takes off one field after the other.
+#![tactic(auto)]
+
 ghost use Rattle.std.specs.Prelude.{◌≡◌, ◌+◌, ◌≤◌, length};
 ghost use Rattle.reader.specs.Fields.{field_at, under_rule, long, taken_at};
 ghost use Rattle.reader.specs.Readers.{reader_at, advanced_of, advancing};
@@ -6,21 +8,21 @@ ghost use Rattle.reader.specs.Readers.{reader_at, advanced_of, advancing};
 use units::Symbols;
 
 // A field that keeps its tag's rule: where its value stands, and where the next field begins.
-#[derive(Drop)]
+#[derive(Clone, Copy)]
 pub struct Tagged {
     pub tag: u8,
     pub value: usize,
     pub next: usize,
 }
 
-#[derive(Drop)]
+#[derive(Clone, Copy)]
 pub enum Field {
     Formed(Tagged),
     Broken,
 }
 
 // A field that was taken off, and the place that reading has come to.
-#[derive(Drop)]
+#[derive(Clone, Copy)]
 struct Taken {
     field: Field,
     place: usize,
@@ -78,7 +80,7 @@ fn taken_at(n: usize, map: &[u8], at: usize) -> Taken
 }
 
 // A map's bytes, and the place that reading has come to.
-#[derive(Drop)]
+#[derive(Clone, Copy)]
 pub struct Reader<'a> {
     pub bytes: &'a [u8],
     pub place: usize,

@@ -1,4 +1,6 @@
 // Repair: a page of the image with one damaged symbol is put right from its map entry.
+#![tactic(auto)]
+
 ghost use Rattle.std.specs.Prelude.{◌≡◌, false, ◌<◌, eqb, length};
 ghost use Rattle.units.specs.Naming.{first_named};
 ghost use Rattle.field.specs.Field.{GF16, α};
@@ -18,7 +20,7 @@ use signature::Signature;
 use units::{Bytes, Refusal, Symbols};
 
 // One symbol of a page, counted from 0.
-#[derive(Drop)]
+#[derive(Clone, Copy)]
 pub struct Change {
     pub position: Symbols,
     pub old: u16,
@@ -27,7 +29,7 @@ pub struct Change {
     pub marked: bool,
 }
 
-#[derive(Drop)]
+#[derive(Clone, Copy)]
 pub enum Repair {
     Whole,
     Repaired(Change),

@@ -1,4 +1,6 @@
 // The algebraic signature of an object: signing it, joining the signatures of its two parts, and editing a signature where bytes were replaced.
+#![tactic(auto)]
+
 ghost use Rattle.std.specs.Prelude.{◌≡◌, ◌+◌, ◌*◌, ◌<◌, get_or};
 ghost use Rattle.units.specs.Sizes.{object_allowed};
 ghost use Rattle.units.specs.Writing.{part_put};
@@ -12,7 +14,7 @@ ghost use Rattle.signature.specs.Operations.{own as object_own, signing, joining
 use units::{Bytes, Refusal, Symbols};
 
 // n and four components. Those above n are ignored on entry, and zero in every answer.
-#[derive(Drop)]
+#[derive(Clone, Copy)]
 pub struct Signature {
     pub n: usize,
     pub s1: u16,
@@ -21,7 +23,7 @@ pub struct Signature {
     pub s4: u16,
 }
 
-#[derive(Drop)]
+#[derive(Clone, Copy)]
 pub enum Answer {
     Signed(Signature),
     Refused(Refusal),

@@ -1,4 +1,6 @@
 // A store leaves in the backup what stands in the table, and writes only the pages whose signature is not their entry's: a page a step, or the whole bucket.
+#![tactic(auto)]
+
 ghost use Rattle.std.specs.Prelude.{◌≡◌, ◌<◌, length};
 ghost use Rattle.map.specs.Files.{pages as header_pages};
 ghost use Rattle.map.specs.Reading.{reading};
@@ -11,12 +13,12 @@ use map::{Entry, Header};
 use units::{Bytes, Listed, Refusal};
 
 // Where a store that is taken a page at a time has come to.
-#[derive(Drop)]
+#[derive(Clone, Copy)]
 pub struct Place {
     pub page: usize,
 }
 
-#[derive(Drop)]
+#[derive(Clone, Copy)]
 pub enum Answer {
     // the page at the place handed in
     Kept(usize),
@@ -25,7 +27,7 @@ pub enum Answer {
     Refused(Refusal),
 }
 
-#[derive(Drop)]
+#[derive(Clone, Copy)]
 pub struct Step {
     pub answer: Answer,
     pub next: Place,

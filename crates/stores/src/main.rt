@@ -1,11 +1,13 @@
 // Runs a script on one small backup. A command on standard input is three bytes, a letter and two numbers; each that asks something of the library prints
 // the answer and what the buffers hold then, those parts too that were not lent. Of a buffer that is shorter than asked for, all is lent.
+#![tactic(auto)]
+
 use libc::STDIN_FILENO;
 use store::{Answer, Place};
 use units::Bytes;
 
 // How much of the image and of the map is lent.
-#[derive(Drop)]
+#[derive(Clone, Copy)]
 struct Lent {
     image: usize,
     map: usize,

@@ -3,7 +3,6 @@ use Rattle.std.specs.Prelude.{ℕ, List, ltb, length}
 use Rattle.units.specs.Refusals.{Test, first, ROOM}
 use Rattle.units.specs.Writing.{written}
 use Rattle.units.specs.declared.Verdict.{Verdict}
-use Rattle.units.specs.declared.Verdict.TheVariants as Verdict
 use Rattle.units.specs.declared.Filled.{Filled}
 use Rattle.units.specs.declared.Filled.TheVariants.{Written, Refused}
 

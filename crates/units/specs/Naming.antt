@@ -3,7 +3,6 @@ use Rattle.std.specs.Prelude.{Bool, cond, List, [], ◌∷◌, ◌++◌, ℕ, ze
 use Rattle.units.specs.declared.Listed.{Listed}
 use Rattle.units.specs.declared.Listed.TheVariants.{Numbers, Refused}
 use Rattle.units.specs.declared.Verdict.{Verdict}
-use Rattle.units.specs.declared.Verdict.TheVariants as Verdict
 
 -- those below m, upward
 unfoldable pub named : (ℕ → Bool) → ℕ → List ℕ

@@ -1,21 +1,23 @@
 // Counts that carry their own name, the sizes that are allowed, a refusal's number with the value beside it, and a part put into a buffer.
+#![tactic(auto)]
+
 ghost use Rattle.std.specs.Prelude.{◌≡◌};
 ghost use Rattle.units.specs.Counts.{symbols_in, bytes_in, pages_in, exponent_at, exponent_back};
 ghost use Rattle.units.specs.Sizes.{n_allowed, page_allowed, object_allowed, bucket_allowed, caption_allowed};
 ghost use Rattle.units.specs.Writing.{part_put};
 
-#[derive(Drop)]
+#[derive(Clone, Copy)]
 pub struct Bytes {
     pub count: usize,
 }
 
-#[derive(Drop)]
+#[derive(Clone, Copy)]
 pub struct Symbols {
     pub count: usize,
 }
 
 // An exponent of α. Whole rounds of α^65535 = 1 need not be kept in it.
-#[derive(Drop)]
+#[derive(Clone, Copy)]
 pub struct Exponent {
     pub power: u16,
 }
@@ -125,7 +127,7 @@ pub fn caption_allowed(caption: Symbols) -> bool
 }
 
 // A call that is turned down: its number in the table, and the value that the table gives beside it.
-#[derive(Drop)]
+#[derive(Clone, Copy)]
 pub struct Refusal {
     pub number: u32,
     pub value: usize,
@@ -157,14 +159,14 @@ impl Refusal {
 }
 
 // What an operation's tests say of a call.
-#[derive(Drop)]
+#[derive(Clone, Copy)]
 pub enum Verdict {
     Allowed,
     Refused(Refusal),
 }
 
 // What an operation answers that fills the start of a lent output.
-#[derive(Drop)]
+#[derive(Clone, Copy)]
 pub enum Filled {
     Written(Bytes),
     Refused(Refusal),
@@ -177,7 +179,7 @@ pub fn refused(number: u32, value: usize) -> Filled
 }
 
 // What an operation answers that puts numbers at the start of a lent list: how many.
-#[derive(Drop)]
+#[derive(Clone, Copy)]
 pub enum Listed {
     Numbers(usize),
     Refused(Refusal),

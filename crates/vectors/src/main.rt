@@ -1,5 +1,7 @@
 // Runs worked numbers of counts and of the field, a line each. The file `stdout` beside this has what they should be: the scope's own figures,
 // the constants of the PAR2 specification, and products taken by logarithms.
+#![tactic(auto)]
+
 use libc::STDOUT_FILENO;
 use units::{Bytes, Refusal, Symbols};
 

@@ -1,4 +1,6 @@
 // Blocks of 16 symbols and their weights. As a symbol has 16 digits, the doublings that multiply by a block's weights make them the next block's.
+#![tactic(auto)]
+
 ghost use Rattle.std.specs.Prelude.{◌≡◌, min, length, get_or};
 ghost use Rattle.weights.specs.Blocks.{Set};
 ghost use Rattle.field.specs.Field.{GF16, α};
@@ -39,7 +41,7 @@ pub fn weigh(block: &mut [u16], weights: &mut [u16])
 }
 
 // A symbol times its weight, and the weight 16 symbols on.
-#[derive(Drop)]
+#[derive(Clone, Copy)]
 struct Weighing {
     product: u16,
     weight: u16,

@@ -1,4 +1,6 @@
 // The components of an object, word by word: a row of words is divided by a relation of α until few are left, and those are summed and reduced.
+#![tactic(auto)]
+
 ghost use Rattle.std.specs.Prelude.{◌≡◌, ℕ, ◌+◌, ◌*◌, ◌%◌, ◌≤◌, ◌<◌, [], ◌∷◌, length};
 ghost use Rattle.field.specs.Field.{GF16, α, ◌⊕◌, product, power};
 ghost use Rattle.field.specs.Field.{reduced as field_reduced};
@@ -9,14 +11,14 @@ ghost use Rattle.components.specs.Words.{of_word, of_words};
 ghost use Rattle.words.specs.Rows.{two, four, row, long_row, Divided, Stands};
 
 // Components 1 and 2.
-#[derive(Drop)]
+#[derive(Clone, Copy)]
 pub struct Two {
     pub s1: u16,
     pub s2: u16,
 }
 
 // Components 1 to 4.
-#[derive(Drop)]
+#[derive(Clone, Copy)]
 pub struct Four {
     pub s1: u16,
     pub s2: u16,
@@ -25,7 +27,7 @@ pub struct Four {
 }
 
 // Words of four symbols, the lowest first.
-#[derive(Drop)]
+#[derive(Clone, Copy)]
 pub struct Row {
     pub w0: u64,
     pub w1: u64,
@@ -33,7 +35,7 @@ pub struct Row {
     pub w3: u64,
 }
 
-#[derive(Drop)]
+#[derive(Clone, Copy)]
 pub struct LongRow {
     pub w0: u64,
     pub w1: u64,
