@@ -7,7 +7,7 @@ use native.Mathlib.Nat.{mod-eq_of_lt, lt_of_lt_of_le, mul_comm, mul-one, div-one
 use native.Mathlib.Omega.{arith}
 use lib.Pow.{pow_mono, shl_lt, shr_mod}
 use Rattle.field.specs.Field.{GF16, ◌⊕◌, reduced, product, power, α}
-use Rattle.field.proofs.Sums.{sum_lt, sum_zero}
+use Rattle.field.proofs.Sums.{sum_lt}
 use Rattle.field.proofs.Reducing.{reduced_below}
 use Rattle.field.proofs.Instances.{GF16_formed}
 use Rattle.components.specs.Components.{component}

@@ -1,10 +1,8 @@
 -- `words::cut_word` meets its contract. The invariant: the bytes from i on are taken in, low byte first.
 -- Assumes nothing.
-use mathlib.Core.Path.{◌≡◌, sym, ap, ap₂, ◌∙◌}
+use mathlib.Core.Path.{sym, ap, ◌∙◌}
 use Prim.Native.Nat.{ℕ, ◌+◌, ◌-◌, ◌*◌, ◌≤◌}
 use native.Mathlib.Omega.{arith}
-use lib.ListN.{length}
-use Rattle.components.specs.Objects.{low_first}
 use Rattle.words.proofs.Reading.{none_read, one_more, few_bytes}
 use Rattle.words.proofs.cut_word.Goals as goal
 

@@ -1,11 +1,9 @@
 -- `words::cut_word` meets its contract. The invariant: the bytes from i on are taken in, low byte first.
 -- Assumes nothing.
-use mathlib.Core.Path.{◌≡◌, sym, ap, ap₂, ◌∙◌}
-use Prim.Native.Nat.{ℕ, ◌+◌, ◌-◌, ◌*◌, ◌≤◌}
-use native.Mathlib.Omega.{arith}
+use mathlib.Core.Path.{◌≡◌}
+use Prim.Native.Nat.{◌+◌, ◌-◌, ◌≤◌}
 use lib.ListN.{length}
 use Rattle.components.specs.Objects.{low_first}
-use Rattle.words.proofs.Reading.{none_read, one_more, few_bytes}
 use Rattle.words.proofs.cut_word.Given as goal
 
 abbrev pub invariant-loop-i : goal.invariant-loop-i

@@ -3,7 +3,6 @@
 use mathlib.Core.Path.{◌∙◌}
 use Rattle.components.proofs.Relations.{own_1}
 use Rattle.words.proofs.Sums.{stands_reduced}
-use borrow.Author.Rules.{rules}
 use Rattle.words.proofs.first.Goals as goal
 
 pub returns : goal.returns

@@ -6,7 +6,6 @@ use Rattle.field.specs.Field.{GF16}
 use Rattle.components.specs.Components.{signature}
 use Rattle.components.proofs.Relations.{own_1, own_2, own_4, third_3}
 use Rattle.words.proofs.Sums.{stands_reduced}
-use borrow.Author.Rules.{rules}
 use Rattle.words.proofs.first_four.Goals as goal
 
 pub returns : goal.returns

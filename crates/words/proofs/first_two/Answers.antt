@@ -4,7 +4,6 @@ use mathlib.Core.Path.{ap₂, ◌∙◌}
 use Prim.Native.Nat.{ℕ}
 use Rattle.components.proofs.Relations.{own_1, own_2}
 use Rattle.words.proofs.Sums.{stands_reduced}
-use borrow.Author.Rules.{rules}
 use Rattle.words.proofs.first_two.Goals as goal
 
 pub returns : goal.returns

@@ -1,10 +1,9 @@
 -- `words::fourth` meets its contract: three words, reduced, above one.
 -- Assumes nothing.
-use mathlib.Core.List.{List, [], ◌∷◌}
+use mathlib.Core.List.{[], ◌∷◌}
 use Rattle.field.specs.Field.{◌⊕◌}
 use native.Mathlib.Omega.{arith}
 use Rattle.words.proofs.Sums.{stands_reduced, stands_again, row_stands}
-use borrow.Author.Rules.{rules}
 use Rattle.words.proofs.fourth.Goals as goal
 
 pub returns : goal.returns

@@ -1,13 +1,13 @@
-use Rattle.words.proofs.left_below.Reads as Reads
-use Rattle.words.proofs.left_below.Lts as lts
-use Rattle.words.proofs.divided.Reads as DividedReads
-use Rattle.words.proofs.word.Reads as WordReads
+-- `words::left_below` meets its contract. The invariant: the row stands for the object from `at` on, if it did at the start, and whole words are left below.
+-- Assumes nothing.
+use Rattle.std.proofs.Common.{◌≡◌, ◌%◌, ◌≤◌, length}
+use Rattle.components.specs.Relations.{own}
+use Rattle.words.specs.Rows.{row, Divided}
 use Rattle.words.proofs.left_below.Given as goal
 
 abbrev pub invariant-loop-at : goal.invariant-loop-at
 invariant-loop-at l =
-    ?
+    (l.at % 8 ≡ 0) × (l.at ≤ length l.object) × (Divided own l.object (row l.initial.r) l.from → Divided own l.object (row l.r) l.at)
 
 abbrev pub decreases-loop-at : goal.decreases-loop-at
-decreases-loop-at l =
-    ?
+decreases-loop-at l = l.at

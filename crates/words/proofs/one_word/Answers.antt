@@ -3,7 +3,6 @@
 use native.Mathlib.Omega.{arith}
 use Rattle.field.specs.Field.{◌⊕◌}
 use Rattle.words.proofs.Sums.{word_stands}
-use borrow.Author.Rules.{rules}
 use Rattle.words.proofs.one_word.Goals as goal
 
 pub returns : goal.returns

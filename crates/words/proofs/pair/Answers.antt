@@ -2,9 +2,7 @@
 -- Assumes nothing.
 use mathlib.Core.Path.{ap₂, ◌∙◌}
 use Prim.Native.Nat.{ℕ, ◌+◌, ◌*◌}
-use native.Mathlib.Omega.{arith}
 use Rattle.words.proofs.Reading.{pair_joined}
-use borrow.Author.Rules.{rules}
 use Rattle.words.proofs.pair.Goals as goal
 
 pub returns : goal.returns

@@ -1,7 +1,6 @@
 -- `words::reduced` meets its contract: it is the quick reduction.
 -- Assumes nothing.
 use native.Mathlib.Omega.{arith}
-use borrow.Author.Rules.{rules}
 use Rattle.field.specs.Field.{◌⊕◌}
 use Rattle.words.proofs.Reducing.{first, second, third, fourth, quotient, taken_off, quick}
 use Rattle.words.proofs.reduced.Goals as goal

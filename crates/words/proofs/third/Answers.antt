@@ -1,14 +1,12 @@
 -- `words::third` meets its contract: the last two words, then four and four below them.
 -- Assumes nothing.
-use mathlib.Core.Path.{◌≡◌, sym, ap, ◌∙◌}
-use mathlib.Core.List.{List, [], ◌∷◌}
+use mathlib.Core.Path.{sym, ap, ◌∙◌}
+use mathlib.Core.List.{[], ◌∷◌}
 use Prim.Native.Nat.{ℕ}
 use Rattle.field.specs.Field.{GF16, ◌⊕◌, product, power, α}
 use Rattle.components.specs.Words.{of_words}
 use Rattle.components.proofs.Division.{rows_joined}
-use Rattle.words.specs.Rows.{row}
 use Rattle.words.proofs.Sums.{stands_reduced}
-use borrow.Author.Rules.{rules}
 use Rattle.words.proofs.third.Goals as goal
 
 pub returns : goal.returns

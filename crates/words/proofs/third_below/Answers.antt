@@ -1,11 +1,8 @@
 -- `words::third_below` meets its contract: what is known of the others, shifted over four words.
 -- Assumes nothing.
 use native.Mathlib.Omega.{arith}
-use mathlib.Core.List.{List, [], ◌∷◌}
-use Prim.Native.Nat.{ℕ, ◌+◌, ◌*◌}
 use Rattle.field.specs.Field.{◌⊕◌}
 use Rattle.words.proofs.Sums.{stands_element, joined}
-use borrow.Author.Rules.{rules}
 use Rattle.words.proofs.third_below.Goals as goal
 
 pub returns : goal.returns

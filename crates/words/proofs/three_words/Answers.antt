@@ -1,11 +1,10 @@
 -- `words::three_words` meets its contract: one word below two.
 -- Assumes nothing.
 use native.Mathlib.Omega.{arith}
-use mathlib.Core.List.{List, [], ◌∷◌}
-use Prim.Native.Nat.{ℕ, ◌+◌, ◌*◌}
+use mathlib.Core.List.{[], ◌∷◌}
+use Prim.Native.Nat.{◌+◌, ◌*◌}
 use Rattle.field.specs.Field.{◌⊕◌}
 use Rattle.words.proofs.Sums.{row_stands}
-use borrow.Author.Rules.{rules}
 use Rattle.words.proofs.three_words.Goals as goal
 
 pub returns : goal.returns

@@ -1,11 +1,10 @@
 -- `words::two_words` meets its contract: one word below another.
 -- Assumes nothing.
 use native.Mathlib.Omega.{arith}
-use mathlib.Core.List.{List, [], ◌∷◌}
-use Prim.Native.Nat.{ℕ, ◌+◌, ◌*◌}
+use mathlib.Core.List.{[], ◌∷◌}
+use Prim.Native.Nat.{◌+◌, ◌*◌}
 use Rattle.field.specs.Field.{◌⊕◌}
 use Rattle.words.proofs.Sums.{last_stands, row_stands}
-use borrow.Author.Rules.{rules}
 use Rattle.words.proofs.two_words.Goals as goal
 
 pub returns : goal.returns

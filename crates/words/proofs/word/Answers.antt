@@ -5,7 +5,6 @@ use Prim.Native.Nat.{ℕ, ◌+◌, ◌*◌}
 use native.Mathlib.Omega.{arith}
 use Rattle.components.proofs.Octets.{low_first_lt}
 use Rattle.words.proofs.Reading.{word_joined}
-use borrow.Author.Rules.{rules}
 use Rattle.words.proofs.word.Goals as goal
 
 pub overflow_mul-result : goal.overflow_mul-result
