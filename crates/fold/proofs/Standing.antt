@@ -10,7 +10,7 @@ use native.Mathlib.Decide.{dec_lt}
 use lib.ListN.{length, get_or, take, drop, replicate, length-take, length-drop, length-replicate, get_or-replicate, get_or-eq_default}
 use lib.Seq.{drop-drop, take-length, get_or-take}
 use Rattle.field.specs.Field.{GF16, ◌⊕◌, product, power, α}
-use Rattle.components.specs.Objects.{Octets, symbols}
+use Rattle.components.specs.Objects.{Octets}
 use Rattle.components.specs.Components.{signature}
 use Rattle.components.specs.Relations.{in_bytes}
 use Rattle.components.specs.Windows.{Down, Raised, Landed}
