@@ -13,7 +13,6 @@ use lib.ListN.{length}
 use borrow.Author.Tests.{le-leb, lt-leb, eq-eqb}
 use Rattle.units.specs.declared.Refusal.{Refusal}
 use Rattle.units.specs.declared.Verdict.{Verdict}
-use Rattle.units.specs.declared.Verdict.TheVariants as Verdict
 use Rattle.units.specs.Counts.{symbols_in}
 use Rattle.units.specs.Sizes.{n_allowed}
 use Rattle.units.specs.Refusals.{Test, first}

@@ -9,7 +9,6 @@ use Rattle.signature.specs.Objects.{symbols}
 use Rattle.signature.specs.Signatures.{signature, joined, edited, handed, answered}
 use Rattle.signature.specs.declared.Signature.{Signature}
 use Rattle.signature.specs.declared.Answer.{Answer}
-use Rattle.signature.specs.declared.Answer.TheVariants as Answer
 
 -- what the table says of an answer
 abbrev pub told : Answer → Verdict

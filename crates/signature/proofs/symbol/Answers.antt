@@ -7,12 +7,10 @@ use Prim.Native.Nat.{ℕ, ◌*◌, ◌-◌, ◌^◌, ◌≤◌, ◌<◌, min}
 use native.Mathlib.Omega.{arith}
 use native.Mathlib.Decide.{dec_lt}
 use lib.ListN.{length}
-use borrow.Author.Rules.{rules}
 use Rattle.signature.specs.Objects.{symbol, low_first}
 use Rattle.signature.proofs.Parts.{low_first_past}
 use Rattle.components.proofs.Octets.{low_first_lt}
-use Rattle.signature.proofs.symbol.Statement.{statement}
-use Rattle.signature.proofs.symbol.Tie as tie
+use Rattle.signature.proofs.symbol.Goals as goal
 
 -- where the place was cut off, there is no symbol
 cut_off : (object : List ℕ) (i : ℕ) → length object < 2 ^ 64 → low_first 2 object (min (i * 2) (2 ^ 64 - 1)) ≡ symbol 2 object i
@@ -25,23 +23,14 @@ cut_off object i short =
     let other : length object ≤ i * 2 = omega arith in
     low_first_past 2 object _ one ∙ sym (low_first_past 2 object _ other))
 
-bytes-of-requires : tie.Need-bytes-of-requires
-bytes-of-requires c κs = search rules
-
-two-bytes-requires : tie.Need-two-bytes-requires
-two-bytes-requires c κs = search rules
-
-cast-result : tie.Need-overflow-cast-result
-cast-result c =
-    let object : List ℕ = c.before.before.before.args.object.now in
-    let small : low_first 2 object c.before.bytes_of.result.count < 65536 = low_first_lt 2 _ _ (λ k. (c.before.before.shared-slice-known.given k).fits) in
+pub overflow_cast-result : goal.overflow_cast-result
+overflow_cast-result c =
+    let object : List ℕ = c.args.object.now in
+    let small : low_first 2 object c.bytes_of.result.count < 65536 = low_first_lt 2 _ _ (λ k. (c.shared_slice_known-1.given k).fits) in
     omega (arith, c.two_bytes.ensures)
 
-returns : tie.Need-returns
+pub returns : goal.returns
 returns c =
     c.two_bytes.ensures
-    ∙ ap (low_first 2 c.before.before.before.args.object.now) c.before.bytes_of.ensures
-    ∙ cut_off c.before.before.before.args.object.now c.before.before.before.args.at.count (omega arith)
-
-pub symbol_spec : {M : Type 1} → statement M
-symbol_spec = tie.close (tie.spec bytes-of-requires two-bytes-requires cast-result returns)
+    ∙ ap (low_first 2 c.args.object.now) c.bytes_of.ensures
+    ∙ cut_off c.args.object.now c.args.at.count (omega arith)
