@@ -18,7 +18,6 @@ use Rattle.units.specs.declared.Filled.{Filled}
 use Rattle.units.specs.declared.Filled.TheVariants.{Written}
 use Rattle.units.specs.declared.Refusal.{Refusal}
 use Rattle.units.specs.declared.Verdict.{Verdict}
-use Rattle.units.specs.declared.Verdict.TheVariants as Verdict
 use Rattle.units.proofs.Refusing.{Given, Lowest, Quiet, exactly_when, allowed_when}
 use Rattle.units.proofs.Filling.{filling_refused, filling_refused_keeps, filling_puts, filling_keeps_after}
 use Rattle.signature.specs.Objects.{Octets}

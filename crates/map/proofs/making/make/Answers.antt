@@ -1,0 +1,89 @@
+-- `map::making::make` meets its contract: each return is the definition at the tests that led there; header and entries are the file.
+-- Assumes nothing.
+use mathlib.Core.Path.{◌≡◌, sym, ap, ap₂, ◌∙◌}
+use mathlib.Core.Bool.{true, false}
+use mathlib.Core.List.{List}
+use Prim.Native.Nat.{ℕ, ◌≤◌, ◌<◌}
+use native.Mathlib.Omega.{arith}
+use lib.ListN.{length}
+use borrow.Author.Tests.{lt-ltb, le-ltb}
+use Rattle.units.specs.Filling.{outcome_of}
+use Rattle.units.specs.Writing.{written}
+use Rattle.units.specs.Sizes.{n_allowed, page_allowed, bucket_allowed}
+use Rattle.units.specs.Counts.{pages_in}
+use Rattle.units.specs.declared.Filled.TheVariants.{Written, Refused}
+use Rattle.units.specs.declared.Filled.{Filled}
+use Rattle.map.specs.Making.{making, needed, made, made_header, made_entry}
+use Rattle.map.specs.Files.{place, entries}
+use Rattle.map.proofs.MadeMaps.{file_written}
+use Rattle.map.proofs.Contents.{Sized}
+use Rattle.map.proofs.making.make.Goals as goal
+
+pub returns-then-not-n_allowed : goal.returns-then-not-n_allowed
+unfolding making
+returns-then-not-n_allowed c =
+    let args : _ = c.args in
+    let size : n_allowed args.n ≡ false = sym c.n_allowed.ensures ∙ c.if-not-n_allowed.true in
+    simp size (ap (λ (a : Filled). outcome_of a args.output.now) c.refused.ensures)
+
+pub returns-then-not-page_allowed : goal.returns-then-not-page_allowed
+unfolding making
+returns-then-not-page_allowed c =
+    let args : _ = c.args in
+    let size : n_allowed args.n ≡ true = sym c.n_allowed.ensures ∙ c.if-not-n_allowed.false in
+    let page : page_allowed args.page.count ≡ false = sym c.page_allowed.ensures ∙ c.if-not-page_allowed.true in
+    simp (size, page) (ap (λ (a : Filled). outcome_of a args.output.now) c.refused-then-not-page_allowed.ensures)
+
+pub returns-then-not-bucket_allowed : goal.returns-then-not-bucket_allowed
+unfolding making
+returns-then-not-bucket_allowed c =
+    let n-allowed : _ = c.n_allowed in
+    let if1 : _ = c.if-not-n_allowed in
+    let page-allowed : _ = c.page_allowed in
+    let if2 : _ = c.if-not-page_allowed in
+    let pages-of : _ = c.pages_of-count in
+    let bucket-allowed : _ = c.bucket_allowed in
+    let args : _ = c.args in
+    let size : n_allowed args.n ≡ true = sym n-allowed.ensures ∙ if1.false in
+    let page : page_allowed args.page.count ≡ true = sym page-allowed.ensures ∙ if2.false in
+    let long : bucket_allowed (length args.bucket.now) (pages_in args.page.count (length args.bucket.now)) ≡ false =
+    ap (bucket_allowed (length args.bucket.now)) (sym pages-of.ensures) ∙ sym bucket-allowed.ensures ∙ c.if-not-bucket_allowed.true in
+    simp (size, page, long) (ap (λ (a : Filled). outcome_of a args.output.now) c.refused-then-not-bucket_allowed.ensures)
+
+pub returns-then-output-needed : goal.returns-then-output-needed
+unfolding making
+returns-then-output-needed c =
+    let pages-of : _ = c.pages_of-count in
+    let args : _ = c.args in
+    let fits : Sized (made_header args.n args.page.count args.bucket.now) = record {
+      n_fits = sym c.n_allowed.ensures ∙ c.if-not-n_allowed.false;
+      page_fits = sym c.page_allowed.ensures ∙ c.if-not-page_allowed.false;
+      bucket_fits = ap (bucket_allowed (length args.bucket.now)) (sym c.pages_of-count.ensures) ∙ sym c.bucket_allowed.ensures ∙ c.if-not-bucket_allowed.false;
+    } in
+    let size : place args.n pages-of.result ≡ needed args.n args.page.count args.bucket.now = ap (place args.n) pages-of.ensures in
+    let short : length args.output.now < needed args.n args.page.count args.bucket.now = omega arith in
+    simp (fits.n_fits, fits.page_fits, fits.bucket_fits, lt-ltb _ _ short)
+    (ap (λ (a : Filled). outcome_of a args.output.now) (c.refused-then-output-needed.ensures ∙ ap (λ (k : ℕ). Refused (record { number = 7; value = k })) size))
+
+pub returns : goal.returns
+unfolding making
+returns c =
+    let pages-of : _ = c.pages_of-count in
+    let if4 : _ = c.if-output-needed in
+    let put-header : _ = c.put_header in
+    let put_entries : _ = c.put_entries in
+    let args : _ = c.args in
+    let fits : Sized (made_header args.n args.page.count args.bucket.now) = record {
+      n_fits = sym c.n_allowed.ensures ∙ c.if-not-n_allowed.false;
+      page_fits = sym c.page_allowed.ensures ∙ c.if-not-page_allowed.false;
+      bucket_fits = ap (bucket_allowed (length args.bucket.now)) (sym c.pages_of-count.ensures) ∙ sym c.bucket_allowed.ensures ∙ c.if-not-bucket_allowed.false;
+    } in
+    let size : place args.n pages-of.result ≡ needed args.n args.page.count args.bucket.now = ap (place args.n) pages-of.ensures in
+    let enough : needed args.n args.page.count args.bucket.now ≤ length args.output.now = omega (arith, if4.false) in
+    let all : put_entries.new.output ≡ written args.output.now 0 (made args.n args.page.count args.bucket.now) =
+    put_entries.ensures
+    ∙ ap (λ (l : List ℕ). written l 18 (entries (made_entry args.n args.page.count args.bucket.now) 0 (pages_in args.page.count (length args.bucket.now))))
+    put-header.ensures
+    ∙ file_written args.n args.page.count args.bucket.now args.output.now enough in
+    simp (fits.n_fits, fits.page_fits, fits.bucket_fits, le-ltb _ _ enough)
+    (ap₂ (λ (k : ℕ) (l : List ℕ). outcome_of (Written (record { count = k })) l) size all)
