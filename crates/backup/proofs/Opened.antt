@@ -10,7 +10,6 @@ use borrow.Author.Tests.{eqb-true, eq-eqb, not-false}
 use Rattle.units.specs.Refusals.{Test, first, MAP}
 use Rattle.units.specs.declared.Refusal.{Refusal}
 use Rattle.units.specs.declared.Verdict.{Verdict}
-use Rattle.units.specs.declared.Verdict.TheVariants as Verdict
 use Rattle.units.proofs.Refusing.{Quiet, allowed_when, first_after, first_before}
 use Rattle.map.specs.Reading.{header_of, reading}
 use Rattle.map.specs.declared.Header.{Header}

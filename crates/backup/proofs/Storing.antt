@@ -10,7 +10,6 @@ use native.Mathlib.Decide.{ℕ_discrete}
 use native.Mathlib.Omega.{arith}
 use lib.ListN.{length}
 use borrow.Author.Tests.{eq-eqb, ne_eqb}
-use Rattle.units.specs.Writing.{written}
 use Rattle.units.proofs.Pieces.{piece_begins}
 use Rattle.units.proofs.Writing.{written_length}
 use Rattle.signature.specs.Kinds.{wide}

@@ -2,7 +2,6 @@
 use Rattle.std.specs.Prelude.{Bool, true, false, not, ◌&&◌, List, [], ◌∷◌, ℕ, eqb}
 use Rattle.units.specs.Refusals.{Test, gives, first, MAP, MATCH}
 use Rattle.units.specs.declared.Verdict.{Verdict}
-use Rattle.units.specs.declared.Verdict.TheVariants as Verdict
 use Rattle.map.specs.Reading.{header_of, reading}
 use Rattle.map.specs.declared.Header.{Header}
 use Rattle.map.specs.declared.Reading.{Reading}

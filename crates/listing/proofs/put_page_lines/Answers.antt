@@ -1,9 +1,8 @@
 -- `listing::put_page_lines` meets its contract. The invariant: what is left to write gives what the whole gives.
 -- Assumes nothing.
-use mathlib.Core.Path.{◌≡◌, refl, sym, ap, ap₂, ◌∙◌}
+use mathlib.Core.Path.{◌≡◌, sym, ap, ap₂, ◌∙◌}
 use mathlib.Core.List.{List, []}
 use Prim.Native.Nat.{ℕ, suc, ◌+◌, ◌-◌, ◌≤◌}
-use native.Mathlib.Nat.{sub-zero}
 use native.Mathlib.Numerals.{add-one}
 use native.Mathlib.Omega.{arith}
 use lib.ListN.{length}
@@ -13,43 +12,22 @@ use Rattle.units.proofs.Writing.{written_none}
 use Rattle.units.proofs.Runs.{run_step, run_more, run_none}
 use Rattle.signature.specs.Signatures.{handed}
 use Rattle.map.specs.Reading.{entry_at}
-use Rattle.map.specs.Files.{pages}
 use Rattle.listing.specs.Lines.{page_line, line_of}
 use Rattle.listing.proofs.Pages.{entry_line, entry_line_length}
 use Rattle.listing.proofs.Lengths.{page_line_length}
-use Rattle.listing.proofs.put_page_lines.Statement.{statement}
-use Rattle.listing.proofs.put_page_lines.Tie as tie
+use Rattle.listing.proofs.put_page_lines.Goals as goal
 
-abbrev invariant-loop : tie.invariant-loop
-invariant-loop map output₀ at n count k₀ to₀ output k to =
-    (put output to (end_to_end (line_of n map) k (count - k)) ≡ put output₀ at (end_to_end (line_of n map) 0 count))
-    × (length output ≡ length output₀) × (k ≤ count)
-
-abbrev decreases-loop : tie.decreases-loop
-decreases-loop map output₀ at n count k₀ to₀ output k to = count - k
-
-pages-requires : tie.Need-pages-requires invariant-loop decreases-loop
-pages-requires c κs = tt
-
-loop-holds : tie.Need-loop-init invariant-loop decreases-loop
-loop-holds c =
-    let args : _ = c.before.before.before.args in
-    (ap (λ (m : ℕ). put args.output.now args.at (end_to_end (line_of args.h.n args.map.now) 0 m)) (sub-zero c.pages.result), refl, omega arith)
-
-entry-at-requires : tie.Need-entry-at-requires invariant-loop decreases-loop
-entry-at-requires c κs = tt
-
-put-page-line-requires : tie.Need-put-page-line-requires invariant-loop decreases-loop
-put-page-line-requires c κs =
-    let required : _ = c.before.before.before.before.before.before.before.requires in
-    let pages-here : _ = c.before.before.before.before.pages in
-    let args : _ = c.before.before.before.before.before.before.before.args in
-    let at : _ = c.before.before.before.loop in
+pub put_page_line-to-requires : goal.put_page_line-to-requires
+put_page_line-to-requires c =
+    let required : _ = c.requires in
+    let pages-here : _ = c.pages-count in
+    let args : _ = c.args in
+    let at : _ = c.loop-k in
     let f : ℕ → List ℕ = line_of args.h.n args.map.now in
     let m : ℕ = pages-here.result - (at.k + 1) in
     let up : pages-here.result - at.k ≡ suc m = omega arith in
-    let line : length (page_line c.before.entry-at.result.signature.n at.k (handed c.before.entry-at.result.signature)) ≡ length (f at.k) =
-    entry_line_length args.h.n args.map.now at.k _ c.before.entry-at.result c.before.entry-at.ensures
+    let line : length (page_line c.entry_at-e.result.signature.n at.k (handed c.entry_at-e.result.signature)) ≡ length (f at.k) =
+    entry_line_length args.h.n args.map.now at.k _ c.entry_at-e.result c.entry_at-e.ensures
     ∙ sym (page_line_length args.h.n at.k (handed (entry_at args.h.n args.map.now at.k).signature)) in
     let more : length (end_to_end f at.k (pages-here.result - at.k)) ≡ length (f at.k) + length (end_to_end f (suc at.k) m) =
     ap (λ (i : ℕ). length (end_to_end f at.k i)) up ∙ run_more f m at.k in
@@ -58,20 +36,14 @@ put-page-line-requires c κs =
     omega (arith, ap (λ (i : ℕ). length (end_to_end f 0 i)) pages-here.ensures, required, at.invariant.1) in
     omega (arith, line, long)
 
-add-k : tie.Need-overflow-add-k invariant-loop decreases-loop
-add-k c = omega arith
-
-loop-less : tie.Need-loop-smaller invariant-loop decreases-loop
-loop-less c = omega arith
-
-loop-again : tie.Need-loop-preserved invariant-loop decreases-loop
-loop-again c =
-    let required : _ = c.before.before.before.before.before.before.before.before.before.before.requires in
-    let pages-here : _ = c.before.before.before.before.before.before.before.pages in
-    let entry-at : _ = c.before.before.before.before.entry-at in
-    let put-page-line : _ = c.before.before.put-page-line in
-    let args : _ = c.before.before.before.before.before.before.before.before.before.before.args in
-    let at : _ = c.before.before.before.before.before.before.loop in
+pub loop-k-preserved : goal.loop-k-preserved
+loop-k-preserved c =
+    let required : _ = c.requires in
+    let pages-here : _ = c.pages-count in
+    let entry-at : _ = c.entry_at-e in
+    let put-page-line : _ = c.put_page_line-to in
+    let args : _ = c.args in
+    let at : _ = c.loop-k in
     let f : ℕ → List ℕ = line_of args.h.n args.map.now in
     let m : ℕ = pages-here.result - (at.k + 1) in
     let up : pages-here.result - at.k ≡ suc m = omega arith in
@@ -79,25 +51,22 @@ loop-again c =
     let same : length (end_to_end f at.k (pages-here.result - at.k)) ≡ length (end_to_end f at.k (suc m)) = ap (λ (i : ℕ). length (end_to_end f at.k i)) up in
     let fits : at.to + length (end_to_end f at.k (suc m)) ≤ length at.output =
     omega (arith, ap (λ (i : ℕ). length (end_to_end f 0 i)) pages-here.ensures, required, at.invariant.1) in
-    let here : put_of put-page-line.new.1.1.0 put-page-line.result ≡ put at.output at.to (f at.k) =
+    let here : put_of put-page-line.new.output put-page-line.result ≡ put at.output at.to (f at.k) =
     put-page-line.ensures ∙ ap (put at.output at.to) (entry_line args.h.n args.map.now at.k entry-at.result entry-at.ensures) in (
       ap₂ (λ (p : Put) (i : ℕ). put p.buffer p.next (end_to_end f i m)) here (add-one at.k)
           ∙ run_step f at.output at.to m at.k fits
           ∙ ap (λ (i : ℕ). put at.output at.to (end_to_end f at.k i)) (sym up)
           ∙ at.invariant.0,
-      put-page-line.auto.1.1.0 ∙ at.invariant.1,
+      put-page-line.auto.output ∙ at.invariant.1,
       omega arith,
     )
 
-same_length : tie.Need-same-length invariant-loop decreases-loop
-same_length c = c.before.loop.invariant.1
-
-returns : tie.Need-returns invariant-loop decreases-loop
+pub returns : goal.returns
 returns c =
-    let required : _ = c.before.before.before.before.before.requires in
-    let pages-here : _ = c.before.before.pages in
-    let args : _ = c.before.before.before.before.before.args in
-    let at : _ = c.before.loop in
+    let required : _ = c.requires in
+    let pages-here : _ = c.pages-count in
+    let args : _ = c.args in
+    let at : _ = c.loop-k in
     let f : ℕ → List ℕ = line_of args.h.n args.map.now in
     let none : pages-here.result - at.k ≡ 0 = omega arith in
     let end : end_to_end f at.k (pages-here.result - at.k) ≡ [] = ap (end_to_end f at.k) none ∙ run_none f at.k in
@@ -107,19 +76,3 @@ returns c =
     ∙ ap (written at.output at.to) (sym end)
     ∙ ap (λ (p : Put). p.buffer) at.invariant.0
     ∙ ap (λ (i : ℕ). written args.output.now args.at (end_to_end f 0 i)) pages-here.ensures
-
-pub put_page_lines_spec : {M : Type 1} → statement M
-put_page_lines_spec =
-    tie.close
-    (tie.spec
-    invariant-loop
-    decreases-loop
-    pages-requires
-    loop-holds
-    entry-at-requires
-    put-page-line-requires
-    add-k
-    loop-less
-    loop-again
-    same_length
-    returns)
