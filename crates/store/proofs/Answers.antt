@@ -11,10 +11,8 @@ use Rattle.units.specs.Naming.{told as told_listed}
 use Rattle.units.specs.Refusals.{first}
 use Rattle.units.specs.declared.Listed.{Listed}
 use Rattle.units.specs.declared.Listed.TheVariants.{Numbers}
-use Rattle.units.specs.declared.Listed.TheVariants as Listed
 use Rattle.units.specs.declared.Refusal.{Refusal}
 use Rattle.units.specs.declared.Verdict.{Verdict}
-use Rattle.units.specs.declared.Verdict.TheVariants as Verdict
 use Rattle.units.proofs.Refusing.{Lowest, told_lowest}
 use Rattle.map.specs.Files.{pages}
 use Rattle.map.specs.Reading.{header_of, entry_at}

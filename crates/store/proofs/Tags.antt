@@ -43,9 +43,9 @@ module _ (k : ℕ) where
   told_written true j e = let z : ◌≡◌ {A = ℕ} 0 1 = cc in absurd (omega arith)
   told_written false j e = (refl, cc)
 
-  pub told_neither : (b : Bool) → OneOf (1 ∷ 2 ∷ 3 ∷ []) (tag (page_answer k b)) → OneOf (0 ∷ 2 ∷ 3 ∷ []) (tag (page_answer k b)) → ⊥
-  told_neither true one other = three_apart 0 1 2 3 one (omega arith) (omega arith) (omega arith)
-  told_neither false one other = three_apart 1 0 2 3 other (omega arith) (omega arith) (omega arith)
+  pub told_neither : (b : Bool) → ((x : ℕ) → page_answer k b ≡ Kept x → ⊥) → ((x : ℕ) → page_answer k b ≡ Written x → ⊥) → ⊥
+  told_neither true kept written = kept k refl
+  told_neither false kept written = written k refl
 
   pub told_not_finished : (b : Bool) → page_answer k b ≡ Finished → ⊥
   told_not_finished true e = let z : ◌≡◌ {A = ℕ} 0 1 = cc in omega arith

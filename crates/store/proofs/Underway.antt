@@ -3,14 +3,13 @@
 use mathlib.Core.Path.{◌≡◌, sym, ap, ap₂, ◌∙◌, subst}
 use mathlib.Core.Logic.{dite, ◌⊎◌, inl, inr, ⊎_elim}
 use mathlib.Core.Bool.{Bool, true, false, not}
-use mathlib.Core.List.{List, [], ◌∷◌}
+use mathlib.Core.List.{List}
 use Prim.Native.Nat.{ℕ, suc, ◌+◌, ◌≤◌, ◌<◌}
 use native.Mathlib.Nat.{le_refl}
 use native.Mathlib.Decide.{dec_lt}
 use native.Mathlib.Omega.{arith}
 use lib.ListN.{length, set}
 use borrow.Author.Tests.{le-ltb, eq-eqb, ne_eqb}
-use types.Run.{OneOf}
 use Rattle.units.specs.declared.Listed.TheVariants.{Numbers}
 use Rattle.units.specs.declared.Verdict.{Verdict}
 use Rattle.units.proofs.Noting as Noting
@@ -30,11 +29,10 @@ use Rattle.backup.proofs.Opened.{Usable, holds_usable}
 use Rattle.backup.proofs.Storing.{none_stored, next_stored, ahead_entry, all_length, all_held}
 use Rattle.store.specs.Steps.{Stepped, stepped_of, page_answer, passed_to, passing, staying, place_tests, step_unless, open_step, stepping}
 use Rattle.store.specs.Stores.{stored_of, stored_to, open_store}
-use Rattle.store.specs.declared.Answer.{Answer}
 use Rattle.store.specs.declared.Answer.TheVariants.{Kept, Written, Finished}
 use Rattle.store.specs.declared.Place.{Place}
 use Rattle.store.specs.declared.Step.{Step}
-use Rattle.store.proofs.Tags.{tag, told_kept, told_written, told_neither, told_not_finished}
+use Rattle.store.proofs.Tags.{told_kept, told_written, told_neither, told_not_finished}
 
 -- the first k pages are through
 pub record Through (h : Header) (table image₀ map₀ : List ℕ) (k : ℕ) (image map : List ℕ) : Type 0 where
@@ -162,14 +160,10 @@ module _ {h : Header} {table image₀ map₀ : List ℕ} (ready : Ready h table 
           (λ (d : Done). absurd (told_not_finished j false (sym is ∙ d.told)))
           taken
 
-      pub on_neither : OneOf (1 ∷ 2 ∷ 3 ∷ []) (tag s.answer) → OneOf (0 ∷ 2 ∷ 3 ∷ []) (tag s.answer) → Done
-      on_neither one other =
+      pub on_neither : ((x : ℕ) → s.answer ≡ Kept x → ⊥) → ((x : ℕ) → s.answer ≡ Written x → ⊥) → Done
+      on_neither kept written =
           ⊎_elim
-          (λ (p : Passed).
-          absurd
-          (told_neither k (agrees h (entry_at h.n map₀) table k)
-          (subst (λ (a : Answer). OneOf (1 ∷ 2 ∷ 3 ∷ []) (tag a)) p.told one)
-          (subst (λ (a : Answer). OneOf (0 ∷ 2 ∷ 3 ∷ []) (tag a)) p.told other)))
+          (λ (p : Passed). absurd (told_neither k (agrees h (entry_at h.n map₀) table k) (λ x e. kept x (p.told ∙ e)) (λ x e. written x (p.told ∙ e))))
           (λ (d : Done). d)
           taken
 

@@ -2,7 +2,6 @@
 use Rattle.std.specs.Prelude.{Bool, cond, List, [], ◌∷◌, ℕ, suc, ltb, eqb, length}
 use Rattle.units.specs.Refusals.{Test, gives, first, PAGENO}
 use Rattle.units.specs.declared.Verdict.{Verdict}
-use Rattle.units.specs.declared.Verdict.TheVariants as Verdict
 use Rattle.map.specs.Files.{pages, file}
 use Rattle.map.specs.Reading.{header_of, entry_at}
 use Rattle.map.specs.declared.Header.{Header}

@@ -6,14 +6,12 @@ use Rattle.units.specs.Writing.{written}
 use Rattle.units.specs.declared.Listed.{Listed}
 use Rattle.units.specs.declared.Listed.TheVariants.{Numbers, Refused}
 use Rattle.units.specs.declared.Verdict.{Verdict}
-use Rattle.units.specs.declared.Verdict.TheVariants as Verdict
 use Rattle.map.specs.Files.{pages, file}
 use Rattle.map.specs.Reading.{header_of, entry_at}
 use Rattle.map.specs.declared.Header.{Header}
 use Rattle.backup.specs.Backups.{Backup, backup_in, stored, changed}
 use Rattle.backup.specs.Openings.{open_tests}
 use Rattle.store.specs.declared.Answer.{Answer}
-use Rattle.store.specs.declared.Answer.TheVariants as Answer
 
 pub record Stored : Type 0 where
   pub answer : Listed

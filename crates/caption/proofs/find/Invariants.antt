@@ -30,6 +30,10 @@ use Rattle.caption.proofs.Allowing.{place_inside}
 use Rattle.caption.proofs.Codes.{as_weight, weight_element, weight_on}
 use Rattle.caption.proofs.find.Given as goal
 
+-- whether the pattern hits at a place
+pub hitting : List ℕ → List ℕ → ℕ → Bool
+hitting caption pattern = hit GF16 0 (symbol 2 caption) (symbols 2 pattern) (symbol 2 pattern)
+
 abbrev pub invariant-loop-i : goal.invariant-loop-i
 invariant-loop-i l =
     (l.i ≤ places_for l.caption l.pattern) × (length l.weighed ≡ 16)

@@ -20,6 +20,10 @@ use Rattle.caption.proofs.Rows.{row_none}
 use Rattle.weights.proofs.Turns.{in_both}
 use Rattle.caption.proofs.put_code.Given as goal
 
+-- the code's symbols
+pub code : List ℕ → ℕ → ℕ
+code caption = coded GF16 0 (symbol 2 caption)
+
 abbrev pub invariant-loop-i : goal.invariant-loop-i
 invariant-loop-i l =
     (l.i ≤ symbols 2 l.caption) × (length l.weights ≡ 16) × (length l.block ≡ 16) × (length l.output ≡ length l.initial.output)

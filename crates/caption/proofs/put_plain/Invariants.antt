@@ -21,6 +21,10 @@ use Rattle.caption.proofs.Rows.{row_none}
 use Rattle.weights.proofs.Turns.{in_both}
 use Rattle.caption.proofs.put_plain.Given as goal
 
+-- the plain symbols
+pub plainly : List ℕ → ℕ → ℕ
+plainly caption = plain GF16 0 (symbol 2 caption)
+
 abbrev pub invariant-loop-i : goal.invariant-loop-i
 invariant-loop-i l =
     (l.i ≤ symbols 2 l.caption) × (length l.unweights ≡ 16) × (length l.block ≡ 16) × (length l.output ≡ length l.initial.output)

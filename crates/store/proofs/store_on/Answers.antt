@@ -1,0 +1,116 @@
+-- `store::store_on` meets its contract. The invariant: the pages before the place are through, and those written are listed.
+-- Assumes nothing.
+use Rattle.std.proofs.Common.{List, get_or, Fits, w8}
+use Rattle.map.specs.Reading.{reading}
+use Rattle.map.specs.declared.Reading.TheVariants.{Holds}
+use Rattle.map.specs.declared.Header.{Header}
+use mathlib.Core.Path.{◌≡◌, sym, ap, ap₂, ◌∙◌}
+use Prim.Native.Nat.{ℕ, ◌≤◌, ◌<◌}
+use native.Mathlib.Omega.{arith}
+use lib.ListN.{length}
+use borrow.Author.Tests.{lt-ltb}
+use Rattle.units.specs.declared.Listed.{Listed}
+use Rattle.units.specs.declared.Listed.TheVariants.{Numbers, Refused}
+use Rattle.map.specs.Files.{pages}
+use Rattle.map.proofs.Holding.{holds_sized}
+use Rattle.backup.proofs.Bounds.{few_pages}
+use Rattle.store.specs.Stores.{open_store, stored_of, ended_by}
+use Rattle.store.specs.declared.Answer.{Answer}
+use Rattle.store.proofs.Underway.{none_noted, noted_below, noted_length, noted_kept, noted_written, none_through, through_reads, through_length}
+use Rattle.store.proofs.Underway.{Ready, Passed, Done, on_kept, on_written, on_neither, all_through}
+use Rattle.store.proofs.store_on.Goals as goal
+
+-- the map was read, and the list has room for every page
+ready_at : {h : Header} {table image map : List ℕ} → ((i : ℕ) → Fits w8 (get_or table i 0)) → ((i : ℕ) → Fits w8 (get_or map i 0))
+    → (reading map ≡ Holds h) × (length table ≡ h.bucket.count) × (length image ≡ h.bucket.count) → Ready h table image map
+ready_at table_fits map_fits pre =
+    record {
+      table_octets = λ i. (table_fits i).fits;
+      map_octets = λ i. (map_fits i).fits;
+      holds = pre.0;
+      table_length = pre.1;
+      image_length = pre.2;
+    }
+
+pub returns-then-list-count : goal.returns-then-list-count
+unfolding open_store
+returns-then-list-count c =
+    let args : _ = c.args in
+    let short : length args.list.now < pages args.h = omega (arith, c.pages-count.ensures) in
+    ap (λ (k : ℕ). stored_of (Refused (record { number = 7; value = k })) args.image.now args.map.now args.list.now) c.pages-count.ensures
+    ∙ sym (simp (lt-ltb _ _ short))
+
+pub loop-k-init : goal.loop-k-init
+loop-k-init c =
+    (none_through (ready_at c.shared_slice_known-1.given c.slice_known-2-1.given c.requires), none_noted)
+
+pub step_on-step-requires : goal.step_on-step-requires
+step_on-step-requires c =
+    let pre : _ = c.requires in
+    (through_reads (ready_at c.shared_slice_known-1.given c.slice_known-2-1.given c.requires) c.loop-k.invariant.0, pre.1, through_length (ready_at c.shared_slice_known-1.given c.slice_known-2-1.given c.requires) c.loop-k.invariant.0)
+
+pub returns-in_default-answer : goal.returns-in_default-answer
+returns-in_default-answer c =
+    let ready : Ready c.args.h c.args.table.now c.args.image.now c.args.map.now = ready_at c.shared_slice_known-1.given c.slice_known-2-1.given c.requires in
+    let enough : pages c.args.h ≤ length c.args.list.now = omega (arith, c.pages-count.ensures, c.if-list-count.false) in
+    let loop : _ = c.loop-k in
+    let step-on : _ = c.step_on-step in
+    let d : Done ready loop.invariant.0 step-on.ensures = on_neither ready loop.invariant.0 step-on.ensures c.in_default-answer.not-Kept c.in_default.not-Written in
+    let answer : c.ended.result ≡ Numbers loop.found = c.ended.ensures ∙ ap (λ (a : Answer). ended_by a loop.found) d.told in
+    ap₂ (λ (i m : List ℕ). stored_of c.ended.result i m loop.list) d.image_kept d.map_kept
+    ∙ ap (λ (a : Listed). stored_of a loop.image loop.map loop.list) answer
+    ∙ all_through d.all enough loop.invariant.0 loop.invariant.1
+
+pub loop-k-smaller-in_default : goal.loop-k-smaller-in_default
+loop-k-smaller-in_default c =
+    let ready : Ready c.args.h c.args.table.now c.args.image.now c.args.map.now = ready_at c.shared_slice_known-1.given c.slice_known-2-1.given c.requires in
+    let loop : _ = c.loop-k in
+    let step-on : _ = c.step_on-step in
+    let p : Passed ready loop.invariant.0 step-on.ensures = (on_kept ready loop.invariant.0 step-on.ensures c.in-Kept.is).0 in
+    omega (arith, p.up, p.inside)
+
+pub loop-k-preserved-in_default : goal.loop-k-preserved-in_default
+loop-k-preserved-in_default c =
+    let ready : Ready c.args.h c.args.table.now c.args.image.now c.args.map.now = ready_at c.shared_slice_known-1.given c.slice_known-2-1.given c.requires in
+    let loop : _ = c.loop-k in
+    let step-on : _ = c.step_on-step in
+    let p : Passed ready loop.invariant.0 step-on.ensures × _ = on_kept ready loop.invariant.0 step-on.ensures c.in-Kept.is in
+    (p.0.next, noted_kept loop.invariant.1 p.0.up p.1)
+
+pub offset_bounds-list-found : goal.offset_bounds-list-found
+offset_bounds-list-found c =
+    let loop : _ = c.loop-k in
+    record { fits = omega (arith, loop.invariant.0.within, noted_below loop.invariant.1, few_pages c.args.h (holds_sized c.args.map.now c.args.h c.requires.0)) }
+
+pub bounds-list-found : goal.bounds-list-found
+bounds-list-found c =
+    let args : _ = c.args in
+    let ready : Ready c.args.h c.args.table.now c.args.image.now c.args.map.now = ready_at c.shared_slice_known-1.given c.slice_known-2-1.given c.requires in
+    let enough : pages c.args.h ≤ length c.args.list.now = omega (arith, c.pages-count.ensures, c.if-list-count.false) in
+    let loop : _ = c.loop-k in
+    let step-on : _ = c.step_on-step in
+    let p : Passed ready loop.invariant.0 step-on.ensures = (on_written ready loop.invariant.0 step-on.ensures c.in-Written.is).0 in
+    let long : length loop.list ≡ length args.list.now = noted_length loop.invariant.1 (omega (arith, p.inside, enough)) in
+    omega (arith, p.inside, enough, noted_below loop.invariant.1)
+
+pub overflow_add-found : goal.overflow_add-found
+overflow_add-found c =
+    let loop : _ = c.loop-k in
+    record { fits = omega (arith, loop.invariant.0.within, noted_below loop.invariant.1, few_pages c.args.h (holds_sized c.args.map.now c.args.h c.requires.0)) }
+
+pub loop-k-smaller : goal.loop-k-smaller
+loop-k-smaller c =
+    let ready : Ready c.args.h c.args.table.now c.args.image.now c.args.map.now = ready_at c.shared_slice_known-1.given c.slice_known-2-1.given c.requires in
+    let loop : _ = c.loop-k in
+    let step-on : _ = c.step_on-step in
+    let p : Passed ready loop.invariant.0 step-on.ensures = (on_written ready loop.invariant.0 step-on.ensures c.in-Written.is).0 in
+    omega (arith, p.up, p.inside)
+
+pub loop-k-preserved : goal.loop-k-preserved
+loop-k-preserved c =
+    let ready : Ready c.args.h c.args.table.now c.args.image.now c.args.map.now = ready_at c.shared_slice_known-1.given c.slice_known-2-1.given c.requires in
+    let enough : pages c.args.h ≤ length c.args.list.now = omega (arith, c.pages-count.ensures, c.if-list-count.false) in
+    let loop : _ = c.loop-k in
+    let step-on : _ = c.step_on-step in
+    let p : Passed ready loop.invariant.0 step-on.ensures × _ × _ = on_written ready loop.invariant.0 step-on.ensures c.in-Written.is in
+    (p.0.next, noted_written loop.invariant.1 p.0.up p.2 p.1 (omega (arith, p.0.inside, enough)))
