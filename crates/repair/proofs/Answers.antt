@@ -9,7 +9,6 @@ use lib.Dec.{ltb}
 use Rattle.units.specs.Refusals.{first}
 use Rattle.units.specs.declared.Refusal.{Refusal}
 use Rattle.units.specs.declared.Verdict.{Verdict}
-use Rattle.units.specs.declared.Verdict.TheVariants as Verdict
 use Rattle.units.proofs.Refusing.{Lowest, told_lowest}
 use Rattle.signature.specs.Kinds.{wide}
 use Rattle.signature.specs.Objects.{symbols}

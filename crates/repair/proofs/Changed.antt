@@ -18,7 +18,6 @@ use Rattle.field.proofs.Tests.{formed}
 use Rattle.signature.specs.Edits.{Edited}
 use Rattle.signature.specs.Kinds.{Kind, wide}
 use Rattle.signature.specs.Objects.{Octets, low_first, low_bytes, symbol, symbols}
-use Rattle.signature.specs.Operations.{own}
 use Rattle.signature.specs.Signatures.{component, signature}
 use Rattle.signature.proofs.Components.{component_one}
 use Rattle.signature.proofs.Editing.{edit_law}

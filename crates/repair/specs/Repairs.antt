@@ -4,7 +4,6 @@ use Rattle.std.specs.Prelude.{cond, List, [], ◌∷◌, ℕ, ◌*◌, eqb, leb,
 use Rattle.units.specs.Refusals.{Test, gives, first, PAGENO, THIN}
 use Rattle.units.specs.Writing.{written}
 use Rattle.units.specs.declared.Verdict.{Verdict}
-use Rattle.units.specs.declared.Verdict.TheVariants as Verdict
 use Rattle.signature.specs.Kinds.{wide}
 use Rattle.signature.specs.Objects.{symbol, symbols}
 use Rattle.signature.specs.Operations.{own}

@@ -1,7 +1,6 @@
 -- `load::load_page` meets its contract: the page where it opened, and else an empty part.
 -- Assumes nothing.
 use mathlib.Core.Path.{◌≡◌, sym, ap, ap₂, ◌∙◌}
-use borrow.Author.Rules.{rules}
 use Rattle.units.specs.declared.Verdict.{Verdict}
 use Rattle.units.specs.declared.Verdict.TheVariants.{Allowed}
 use Rattle.map.specs.Buckets.{page_at}

@@ -1,13 +1,8 @@
 -- `load::lowest_damaged` meets its contract. The invariant: the first damaged page of those left is the first of all.
 -- Assumes nothing.
-use mathlib.Core.Path.{◌≡◌, sym, ap, ◌∙◌}
-use mathlib.Core.Bool.{true, false, not}
-use Prim.Native.Nat.{ℕ, ◌+◌, ◌-◌}
-use native.Mathlib.Nat.{zero-add}
-use native.Mathlib.Omega.{arith}
-use borrow.Author.Rules.{rules}
+use mathlib.Core.Path.{◌≡◌}
+use Prim.Native.Nat.{◌+◌}
 use Rattle.units.specs.Naming.{first_named}
-use Rattle.units.proofs.First.{turn_finds, turn_goes_on, turn_ends}
 use Rattle.map.specs.Files.{pages}
 use Rattle.load.specs.Loads.{damaged, lowest_damaged}
 use Rattle.load.proofs.lowest_damaged.Given as goal

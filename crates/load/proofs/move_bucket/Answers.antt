@@ -5,7 +5,6 @@ use Prim.Native.Nat.{ℕ, ◌+◌, ◌≤◌, ◌<◌}
 use native.Mathlib.Omega.{arith}
 use lib.ListN.{length}
 use borrow.Author.Tests.{lt-ltb, le-ltb}
-use borrow.Author.Rules.{rules}
 use Rattle.units.specs.Filling.{outcome_of}
 use Rattle.units.specs.declared.Filled.{Filled}
 use Rattle.units.specs.declared.Filled.TheVariants.{Written, Refused}
@@ -17,7 +16,7 @@ use Rattle.load.proofs.move_bucket.Goals as goal
 pub returns-then-k-pages : goal.returns-then-k-pages
 unfolding open_load
 returns-then-k-pages c =
-    let lowest_damaged_lem : _ = c.lowest_damaged_lem in
+    let lowest_damaged_lem : _ = c.lowest_damaged-k in
     let args : _ = c.args in
     let below : lowest_damaged args.h args.image.now args.map.now < pages args.h = omega (arith, lowest_damaged_lem.ensures, c.pages.ensures) in
     simp (lt-ltb _ _ below) (ap (λ (a : Filled). outcome_of a args.table.now) (c.refused.ensures ∙ ap (λ (k : ℕ). Refused (record { number = 10; value = k })) lowest_damaged_lem.ensures))
@@ -26,7 +25,7 @@ pub returns : goal.returns
 unfolding open_load
 returns c =
     let pre : _ = c.requires in
-    let lowest_damaged_lem : _ = c.lowest_damaged_lem in
+    let lowest_damaged_lem : _ = c.lowest_damaged-k in
     let counted : _ = c.pages in
     let if1 : _ = c.if-k-pages in
     let args : _ = c.args in

@@ -4,8 +4,7 @@ use mathlib.Core.Bool.{true, false}
 use mathlib.Core.Path.{◌≡◌, sym, ◌∙◌}
 use Prim.Native.Nat.{◌≤◌, ◌<◌}
 use native.Mathlib.Omega.{arith}
-use borrow.Author.Tests.{le-leb, lt-leb, not-true, not-false}
-use borrow.Author.Rules.{rules}
+use borrow.Author.Tests.{le-leb, lt-leb}
 use Rattle.units.specs.Refusals.{first}
 use Rattle.map.specs.Files.{pages}
 use Rattle.map.specs.Reading.{entry_at}
@@ -21,12 +20,12 @@ pub returns-in_default : goal.returns-in_default
 unfolding asking
 returns-in_default c =
     let args : _ = c.args in
-    c.in_default.is ∙ sym (refused_as opened (λ g. page_tests g args.image.now args.map.now args.k) _ _ _ _ (sym c.«open».ensures ∙ c.in_default.is))
+    c.in_default.is ∙ sym (refused_as opened (λ g. page_tests g args.image.now args.map.now args.k) _ _ _ _ (sym c.open-opening.ensures ∙ c.in_default.is))
 
 pub returns-then-k-pages : goal.returns-then-k-pages
 unfolding asking
 returns-then-k-pages c =
-    let opens : _ = c.«open» in
+    let opens : _ = c.open-opening in
     let args : _ = c.args in
     let h : Header = c.in-Open.h in
     let past : pages h ≤ args.k = omega (arith, c.pages.ensures) in
@@ -36,7 +35,7 @@ returns-then-k-pages c =
 pub returns-then-not-whole : goal.returns-then-not-whole
 unfolding asking
 returns-then-not-whole c =
-    let opens : _ = c.«open» in
+    let opens : _ = c.open-opening in
     let counted : _ = c.pages in
     let args : _ = c.args in
     let h : Header = c.in-Open.h in
@@ -48,7 +47,7 @@ returns-then-not-whole c =
 pub returns : goal.returns
 unfolding asking
 returns c =
-    let opens : _ = c.«open» in
+    let opens : _ = c.open-opening in
     let counted : _ = c.pages in
     let args : _ = c.args in
     let h : Header = c.in-Open.h in

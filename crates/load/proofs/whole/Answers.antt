@@ -1,7 +1,6 @@
 -- `load::whole` meets its contract: the page's own signature is held against its entry's.
 -- Assumes nothing.
 use mathlib.Core.Path.{sym}
-use borrow.Author.Rules.{rules}
 use Rattle.backup.proofs.Sameness.{agrees_by}
 use Rattle.load.proofs.whole.Goals as goal
 

@@ -1,0 +1,26 @@
+-- `repair::put_symbol` meets its contract: both bytes, or the one that the page has.
+-- Assumes nothing.
+use mathlib.Core.Path.{◌≡◌, ap, ◌∙◌}
+use Prim.Native.Nat.{ℕ, ◌-◌, ◌*◌, ◌%◌, ◌≤◌, ◌<◌}
+use native.Mathlib.Omega.{arith}
+use lib.ListN.{length, set}
+use Rattle.units.specs.Writing.{part_put}
+use Rattle.signature.specs.Objects.{low_bytes}
+use Rattle.repair.proofs.Changed.{put_both, put_low}
+use Rattle.repair.proofs.put_symbol.Goals as goal
+
+pub returns-then-page-at-gt1 : goal.returns-then-page-at-gt1
+returns-then-page-at-gt1 c =
+    let args : _ = c.args in
+    let inside : _ = c.requires in
+    let at : c.bytes_of-at.result.count ≡ args.i.count * 2 = omega (arith, c.bytes_of-at.ensures) in
+    let room : 1 < length args.page.now - args.i.count * 2 = omega arith in
+    c.put_two_bytes.ensures ∙ ap (part_put (low_bytes 2 args.x) args.page.now) at
+    ∙ put_both args.page.now args.i.count args.x inside room
+
+pub returns : goal.returns
+returns c =
+    let args : _ = c.args in
+    let at : c.bytes_of-at.result.count ≡ args.i.count * 2 = omega (arith, c.bytes_of-at.ensures) in
+    let room : length args.page.now - args.i.count * 2 ≤ 1 = omega arith in
+    ap (λ (k : ℕ). set args.page.now k (args.x % 256)) at ∙ put_low args.page.now args.i.count args.x c.requires room
