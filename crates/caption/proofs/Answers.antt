@@ -18,9 +18,6 @@ use Rattle.units.specs.declared.Filled.{Filled}
 use Rattle.units.specs.declared.Listed.{Listed}
 use Rattle.units.specs.declared.Refusal.{Refusal}
 use Rattle.units.specs.declared.Verdict.{Verdict}
-use Rattle.units.specs.declared.Filled.TheVariants as Filled
-use Rattle.units.specs.declared.Listed.TheVariants as Listed
-use Rattle.units.specs.declared.Verdict.TheVariants as Verdict
 use Rattle.units.proofs.Filling.{filling_refused, filling_refused_keeps, filling_puts, filling_keeps_after}
 use Rattle.units.proofs.Naming.{named_none}
 use Rattle.units.proofs.Refusing.{Lowest, told_lowest}

@@ -7,7 +7,6 @@ use Rattle.units.specs.Writing.{written}
 use Rattle.units.specs.declared.Listed.{Listed}
 use Rattle.units.specs.declared.Listed.TheVariants.{Numbers, Refused}
 use Rattle.units.specs.declared.Verdict.{Verdict}
-use Rattle.units.specs.declared.Verdict.TheVariants as Verdict
 use Rattle.field.specs.Field.{GF16}
 use Rattle.signature.specs.Objects.{symbol, symbols}
 use Rattle.signature.specs.Kinds.{wide}

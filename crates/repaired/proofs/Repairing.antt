@@ -32,7 +32,7 @@ use Rattle.backup.proofs.Opened.{Usable, holds_usable}
 use Rattle.backup.proofs.Pages.{page_length, page_here}
 use Rattle.backup.proofs.Sameness.{is_agrees}
 use Rattle.repair.specs.Changes.{Tells, changed, fits}
-use Rattle.repair.specs.Repairs.{Outcome, change_of, put, mended, page_left, outcome_of, page_tests, image_left, unless, open_repair, repairing}
+use Rattle.repair.specs.Repairs.{Outcome, change_of, mended, page_left, outcome_of, page_tests, image_left, unless, open_repair, repairing}
 use Rattle.repair.specs.declared.Change.{Change}
 use Rattle.repair.specs.declared.Repair.{Repair}
 use Rattle.repair.specs.declared.Repair.TheVariants.{Whole, Repaired, Beyond}

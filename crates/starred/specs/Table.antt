@@ -1,7 +1,6 @@
 -- The scope's starred numbers, a row each: what the definitions give, and what the scope says.
 use Rattle.std.specs.Prelude.{ℕ, ◌/◌, ◌%◌, List, [], ◌∷◌, take}
 use Rattle.units.specs.declared.Listed.{Listed}
-use Rattle.units.specs.declared.Listed.TheVariants as Listed
 use Rattle.signature.specs.declared.Answer.{Answer}
 use Rattle.signature.specs.declared.Answer.TheVariants.{Signed, Refused}
 use Rattle.signature.specs.Kinds.{wide}

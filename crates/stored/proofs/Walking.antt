@@ -14,10 +14,8 @@ use Rattle.units.specs.Naming.{named, told as told_listed}
 use Rattle.units.specs.Refusals.{Test, first, gives, ROOM, PAGENO}
 use Rattle.units.specs.Writing.{written}
 use Rattle.units.specs.declared.Listed.TheVariants.{Numbers}
-use Rattle.units.specs.declared.Listed.TheVariants as Listed
 use Rattle.units.specs.declared.Refusal.{Refusal}
 use Rattle.units.specs.declared.Verdict.{Verdict}
-use Rattle.units.specs.declared.Verdict.TheVariants as Verdict
 use Rattle.units.proofs.Naming.{named_none}
 use Rattle.units.proofs.Refusing.{allowed_not_refused, same_refusal}
 use Rattle.signature.specs.Objects.{Octets}
@@ -30,7 +28,7 @@ use Rattle.backup.specs.Openings.{map_test, match_test}
 use Rattle.backup.proofs.Opened.{Usable}
 use Rattle.store.specs.Steps.{told, page_answer, step_unless, open_step, stepping}
 use Rattle.store.specs.Stores.{Stored, store_tests, storing}
-use Rattle.store.specs.declared.Answer.TheVariants.{Finished, Refused}
+use Rattle.store.specs.declared.Answer.TheVariants.{Finished}
 use Rattle.store.specs.declared.Place.{Place}
 use Rattle.store.specs.declared.Step.{Step}
 use Rattle.store.proofs.Answers.{store_is}

@@ -1,15 +1,12 @@
 -- `caption::find` meets its contract. The invariant: the weighted signatures are those of the places from i on, and the hits before place i are noted.
 -- Assumes nothing.
 use mathlib.Core.Path.{◌≡◌, sym, ap, ap₂, ◌∙◌}
-use mathlib.Core.Logic.{⊎_elim}
-use mathlib.Core.Bool.{Bool}
 use mathlib.Core.List.{List}
 use Prim.Native.Nat.{ℕ, ◌+◌, ◌-◌, ◌*◌, ◌%◌, ◌≤◌, ◌<◌, min}
 use native.Mathlib.Omega.{arith}
 use native.Mathlib.Nat.{zero-add}
 use lib.ListN.{length, get_or}
 use lib.Dec.{eqb}
-use borrow.Author.Rules.{rules}
 use Rattle.units.proofs.Noting.{Noted, none_noted, noted_below, noted_length}
 use Rattle.units.specs.Naming.{named}
 use Rattle.units.specs.Writing.{written}
@@ -30,6 +27,7 @@ use Rattle.caption.proofs.Allowing.{place_inside}
 use Rattle.caption.proofs.Codes.{as_weight, weight_element, weight_on}
 use Rattle.caption.proofs.find.Invariants.{hitting}
 use Rattle.caption.proofs.find.Goals as goal
+use Rattle.caption.proofs.find.Goals.{then-may_hit, else-may_hit}
 
 signed : (pattern : List ℕ) → Octets pattern → Element GF16 (signature GF16 2 pattern 1)
 signed pattern octets = component_element GF16 GF16_formed (symbols 2 pattern) (symbol 2 pattern) 1 (GF16_symbol pattern octets)
@@ -111,12 +109,12 @@ loop-i-preserved c =
           ∙ ap (λ (x : ℕ). product GF16 x (weight GF16 0 16)) (at.invariant.2 inside k h)
           ∙ product_assoc GF16 GF16_formed (signed pattern (λ j. (shared-slice-known2.given j).fits)) (weight_element GF16 0 GF16_passes (at.i + k)) (weight_element GF16 0 GF16_passes 16)
           ∙ ap (product GF16 (signature GF16 2 pattern 1)) (weight_on GF16 0 GF16_passes (at.i + k) 16 ∙ ap (weight GF16 0) on),
-      ⊎_elim
-          (λ w.
-          let next : _ = w.3.ensures (hitting caption pattern) args.list.now long each at.invariant.3.list_is at.invariant.3.found_is in
-          again w.6 w.7 (record { list_is = next.0; found_is = next.1 }))
-          (λ w. again w.1 w.2 (all_passed n at.invariant.3 (λ k h. each k h ∙ may-hit.ensures w.0.left k h)))
-          c.if-may_hit.branch,
+      elim c.if-may_hit.branch [
+        | then-may_hit w ↦
+            let next : _ = w.note-found.ensures (hitting caption pattern) args.list.now long each at.invariant.3.list_is at.invariant.3.found_is in
+            again w.list-is w.found-is (record { list_is = next.0; found_is = next.1 })
+        | else-may_hit w ↦ again w.list-is w.found-is (all_passed n at.invariant.3 (λ k h. each k h ∙ may-hit.ensures w.if-may_hit.false k h))
+      ],
     )
 
 pub returns : goal.returns

@@ -1,14 +1,10 @@
 -- `caption::may_hit` meets its contract. The invariant: where none is marked, none of the k places is hit.
 -- Assumes nothing.
-use mathlib.Core.Path.{◌≡◌, sym, ap, ap₂, ◌∙◌}
-use mathlib.Core.Logic.{⊎_elim}
+use mathlib.Core.Path.{◌≡◌}
 use mathlib.Core.Bool.{false}
-use Prim.Native.Nat.{ℕ, suc, ◌+◌, ◌-◌, ◌≤◌, ◌<◌}
-use native.Mathlib.Omega.{arith}
+use Prim.Native.Nat.{ℕ, ◌+◌, ◌-◌, ◌≤◌, ◌<◌}
 use lib.ListN.{get_or}
 use lib.Dec.{eqb}
-use borrow.Author.Tests.{ne_eqb}
-use borrow.Author.Count.{below_more}
 use Rattle.field.specs.Field.{◌⊕◌}
 use Rattle.signature.specs.Objects.{symbol}
 use Rattle.caption.specs.Codes.{previous}

@@ -1,19 +1,15 @@
 -- `caption::note` meets its contract. The invariant: the hits before place i + k are noted.
 -- Assumes nothing.
-use mathlib.Core.Path.{◌≡◌, refl, sym, ap, ◌∙◌, subst}
-use mathlib.Core.Logic.{⊎_elim}
+use mathlib.Core.Path.{◌≡◌}
 use mathlib.Core.List.{List}
 use mathlib.Core.Bool.{Bool}
-use Prim.Native.Nat.{ℕ, suc, ◌+◌, ◌-◌, ◌≤◌, ◌<◌}
-use native.Mathlib.Omega.{arith}
-use native.Mathlib.Nat.{add-zero}
-use lib.ListN.{length, get_or, length-set}
+use Prim.Native.Nat.{ℕ, ◌+◌, ◌-◌, ◌≤◌, ◌<◌}
+use lib.ListN.{length, get_or}
 use lib.Dec.{eqb}
-use Rattle.units.proofs.Noting.{Noted, noted_passed, noted_listed}
+use Rattle.units.proofs.Noting.{Noted}
 use Rattle.field.specs.Field.{◌⊕◌}
 use Rattle.signature.specs.Objects.{symbol}
 use Rattle.caption.specs.Codes.{previous}
-use Rattle.caption.proofs.Turns.{again}
 use Rattle.caption.proofs.note.Given as goal
 
 abbrev pub invariant-loop-k : goal.invariant-loop-k

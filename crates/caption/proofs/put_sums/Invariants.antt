@@ -1,19 +1,13 @@
 -- `caption::put_sums` meets its contract. The invariant: the sum is the code's symbol before place i + l, and the code up to there is written.
 -- Assumes nothing.
-use mathlib.Core.Path.{◌≡◌, refl, sym, ap, ◌∙◌}
+use mathlib.Core.Path.{◌≡◌}
 use mathlib.Core.List.{List}
-use Prim.Native.Nat.{ℕ, suc, ◌+◌, ◌-◌, ◌*◌, ◌≤◌, ◌<◌}
-use native.Mathlib.Omega.{arith}
-use native.Mathlib.Nat.{add-zero}
+use Prim.Native.Nat.{ℕ, ◌+◌, ◌-◌, ◌≤◌, ◌<◌}
 use lib.ListN.{length, get_or}
-use borrow.Author.Rules.{rules}
 use Rattle.units.specs.Writing.{written}
 use Rattle.field.specs.Field.{◌⊕◌}
-use Rattle.signature.proofs.Numbers.{two_bytes_put}
-use Rattle.signature.specs.Objects.{low_bytes}
 use Rattle.caption.specs.Recoding.{bytes}
 use Rattle.caption.specs.Codes.{previous}
-use Rattle.caption.proofs.Rows.{row_up}
 use Rattle.caption.proofs.put_sums.Given as goal
 
 abbrev pub invariant-loop-l : goal.invariant-loop-l

@@ -1,15 +1,10 @@
 -- `caption::put_symbols` meets its contract. The invariant: what is still to be written, over what is there, gives what all of it gives.
 -- Assumes nothing.
-use mathlib.Core.Path.{◌≡◌, refl, ap, ◌∙◌}
-use mathlib.Core.List.{List}
-use Prim.Native.Nat.{ℕ, suc, ◌+◌, ◌-◌, ◌*◌, ◌≤◌, ◌<◌}
-use native.Mathlib.Omega.{arith}
+use mathlib.Core.Path.{◌≡◌}
+use Prim.Native.Nat.{ℕ, ◌-◌, ◌≤◌, ◌<◌}
 use lib.ListN.{length, get_or}
 use Rattle.units.specs.Writing.{written}
-use Rattle.signature.proofs.Numbers.{two_bytes_put}
-use Rattle.signature.specs.Objects.{low_bytes}
 use Rattle.caption.specs.Recoding.{bytes}
-use Rattle.caption.proofs.Rows.{row_down}
 use Rattle.caption.proofs.put_symbols.Given as goal
 
 abbrev pub invariant-loop-l : goal.invariant-loop-l

@@ -1,14 +1,10 @@
 -- `caption::read_changes` meets its contract. The invariant: l changes are read.
 -- Assumes nothing.
-use mathlib.Core.Path.{ap₂, ◌∙◌}
-use Prim.Native.Nat.{◌-◌, ◌≤◌, ◌<◌}
-use native.Mathlib.Omega.{arith}
-use lib.ListN.{length}
+use Prim.Native.Nat.{◌-◌, ◌≤◌}
 use Rattle.field.specs.Field.{◌⊕◌}
 use Rattle.signature.specs.Objects.{symbol}
 use Rattle.caption.specs.Codes.{previous}
 use Rattle.weights.specs.Blocks.{Set}
-use Rattle.weights.proofs.Turns.{none_set, one_set}
 use Rattle.caption.proofs.read_changes.Given as goal
 
 abbrev pub invariant-loop-l : goal.invariant-loop-l

@@ -1,11 +1,8 @@
 -- `caption::read_symbols` meets its contract. The invariant: l symbols are read.
 -- Assumes nothing.
-use Prim.Native.Nat.{◌+◌, ◌-◌, ◌≤◌, ◌<◌}
-use native.Mathlib.Omega.{arith}
-use lib.ListN.{length}
+use Prim.Native.Nat.{◌+◌, ◌-◌, ◌≤◌}
 use Rattle.signature.specs.Objects.{symbol}
 use Rattle.weights.specs.Blocks.{Set}
-use Rattle.weights.proofs.Turns.{none_set, one_set}
 use Rattle.caption.proofs.read_symbols.Given as goal
 
 abbrev pub invariant-loop-l : goal.invariant-loop-l
