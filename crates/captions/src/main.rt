@@ -3,8 +3,10 @@
 // Of a buffer that is shorter than asked for, all is lent.
 #![tactic(auto)]
 
-use libc::STDIN_FILENO;
 use units::Listed;
+
+// Standard input's number.
+const STDIN: i32 = 0;
 
 // How much of each buffer is lent.
 #[derive(Clone, Copy)]
@@ -17,7 +19,7 @@ struct Lent {
 
 fn main() {
     let mut script = [0u8; 16_384];
-    let got = io::read_full(STDIN_FILENO, &mut script);
+    let got = io::read_full(STDIN, &mut script);
     let mut caption = [0u8; 65_538];
     let mut pattern = [0u8; 200_000];
     let mut output = [0xEEu8; 65_538];

@@ -11,9 +11,7 @@ use Rattle.units.specs.Filling.{room, told as told_filled}
 use Rattle.units.specs.Naming.{told as told_listed}
 use Rattle.units.specs.Refusals.{Test}
 use Rattle.units.specs.declared.Filled.{Filled}
-use Rattle.units.specs.declared.Filled.TheVariants as Filled
 use Rattle.units.specs.declared.Listed.{Listed}
-use Rattle.units.specs.declared.Listed.TheVariants as Listed
 use Rattle.units.specs.declared.Refusal.{Refusal}
 use Rattle.units.specs.declared.Verdict.{Verdict}
 use Rattle.units.specs.declared.Verdict.TheVariants.{Allowed, Refused}
@@ -21,7 +19,6 @@ use Rattle.units.proofs.Refusing.{Lowest, above, lowest_above}
 use Rattle.signature.specs.Kinds.{wide}
 use Rattle.signature.specs.Operations.{told as told_signed, signing, sign_tests, joining, join_tests, editing, edit_tests}
 use Rattle.signature.specs.declared.Answer.{Answer}
-use Rattle.signature.specs.declared.Answer.TheVariants as Answer
 use Rattle.signature.specs.declared.Signature.{Signature}
 use Rattle.signature.proofs.EveryKind.{sign_refused, join_refused, edit_refused}
 use Rattle.map.specs.Making.{making, make_tests}
@@ -34,14 +31,12 @@ use Rattle.listing.proofs.Listings.{list_refused}
 use Rattle.store.specs.Steps.{told as told_step, stepping, step_tests}
 use Rattle.store.specs.Stores.{storing, store_tests}
 use Rattle.store.specs.declared.Answer.{Answer as StepAnswer}
-use Rattle.store.specs.declared.Answer.TheVariants as StepAnswer
 use Rattle.store.specs.declared.Place.{Place}
 use Rattle.store.proofs.Answers.{step_refused, store_refused}
 use Rattle.load.specs.Loads.{asking, load_tests, loading, load_bucket_tests}
 use Rattle.load.proofs.Answers.{ask_refused, load_bucket_refused}
 use Rattle.repair.specs.Repairs.{told as told_repair, repairing, repair_tests}
 use Rattle.repair.specs.declared.Repair.{Repair}
-use Rattle.repair.specs.declared.Repair.TheVariants as Repair
 use Rattle.repair.proofs.Answers.{repair_refused}
 use Rattle.caption.specs.Recoding.{recoding, recode_tests, encoding, decoding}
 use Rattle.caption.specs.Searches.{searching, search_tests}

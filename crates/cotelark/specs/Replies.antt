@@ -3,29 +3,22 @@ use Rattle.std.specs.Prelude.{false, cond, List, [], ◌∷◌, ℕ, ◌*◌, le
 use Rattle.units.specs.Filling.{Outcome}
 use Rattle.units.specs.Refusals.{MAP}
 use Rattle.units.specs.declared.Filled.{Filled}
-use Rattle.units.specs.declared.Filled.TheVariants as Filled
 use Rattle.units.specs.declared.Listed.{Listed}
-use Rattle.units.specs.declared.Listed.TheVariants as Listed
 use Rattle.units.specs.declared.Refusal.{Refusal}
 use Rattle.units.specs.declared.Verdict.{Verdict}
-use Rattle.units.specs.declared.Verdict.TheVariants as Verdict
 use Rattle.signature.specs.declared.Answer.{Answer}
-use Rattle.signature.specs.declared.Answer.TheVariants as Answer
 use Rattle.signature.specs.declared.Signature.{Signature}
 use Rattle.map.specs.Files.{pages}
 use Rattle.map.specs.Reading.{header_of}
 use Rattle.map.specs.declared.Reading.{Reading}
-use Rattle.map.specs.declared.Reading.TheVariants as Reading
 use Rattle.store.specs.Steps.{Stepped}
 use Rattle.store.specs.Stores.{Stored}
 use Rattle.store.specs.declared.Answer.{Answer as StepAnswer}
-use Rattle.store.specs.declared.Answer.TheVariants as StepAnswer
 use Rattle.store.specs.declared.Place.{Place}
 use Rattle.load.specs.Loads.{asking, loaded_page}
 use Rattle.repair.specs.Repairs as Repairs
 use Rattle.repair.specs.declared.Change.{Change}
 use Rattle.repair.specs.declared.Repair.{Repair}
-use Rattle.repair.specs.declared.Repair.TheVariants as Repair
 use Rattle.caption.specs.Searches.{Searched}
 
 pub record Reply : Type 0 where

@@ -4,9 +4,11 @@
 
 ghost use Rattle.std.specs.Prelude.{◌≡◌, ◌≤◌, min};
 
-use libc::STDOUT_FILENO;
 use signature::{Answer, Signature};
 use units::{Filled, Listed, Refusal, Verdict};
+
+// Standard output's number.
+const STDOUT: i32 = 1;
 
 // As much as a buffer has.
 pub fn within(x: usize, most: usize) -> usize
@@ -21,13 +23,13 @@ pub fn within(x: usize, most: usize) -> usize
 pub fn text(t: &[u8])
     ensures { result ≡ tt }
 {
-    io::write_all(STDOUT_FILENO, t);
+    io::write_all(STDOUT, t);
 }
 
 fn decimal(x: usize)
     ensures { result ≡ tt }
 {
-    io::print_decimal(STDOUT_FILENO, x as u64);
+    io::print_decimal(STDOUT, x as u64);
 }
 
 // What a line is about.
@@ -53,7 +55,7 @@ pub fn bytes(b: &[u8])
 {
     let mut i: usize = 0;
     while i < b.len() {
-        io::print_hex(STDOUT_FILENO, b[i] as u64, 2);
+        io::print_hex(STDOUT, b[i] as u64, 2);
         i += 1;
     }
     text(b"\n");
@@ -138,5 +140,5 @@ fn components(s: Signature) {
 
 fn component(s: u16) {
     text(b" ");
-    io::print_hex(STDOUT_FILENO, s as u64, 4);
+    io::print_hex(STDOUT, s as u64, 4);
 }

@@ -2,9 +2,11 @@
 // the answer and what the buffers hold then, those parts too that were not lent. Of a buffer that is shorter than asked for, all is lent.
 #![tactic(auto)]
 
-use libc::STDIN_FILENO;
 use store::{Answer, Place};
 use units::Bytes;
+
+// Standard input's number.
+const STDIN: i32 = 0;
 
 // How much of the image and of the map is lent.
 #[derive(Clone, Copy)]
@@ -15,7 +17,7 @@ struct Lent {
 
 fn main() {
     let mut script = [0u8; 6144];
-    let got = io::read_full(STDIN_FILENO, &mut script);
+    let got = io::read_full(STDIN, &mut script);
     let mut table = [0u8; 12];
     let mut image = [0u8; 12];
     let mut map = [0u8; 96];

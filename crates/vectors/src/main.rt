@@ -2,8 +2,10 @@
 // the constants of the PAR2 specification, and products taken by logarithms.
 #![tactic(auto)]
 
-use libc::STDOUT_FILENO;
 use units::{Bytes, Refusal, Symbols};
+
+// Standard output's number.
+const STDOUT: i32 = 1;
 
 fn main() {
     sizes();
@@ -103,7 +105,7 @@ fn refusals() {
 }
 
 fn refusal(name: &[u8], number: u32) {
-    io::print_decimal(STDOUT_FILENO, number as u64);
+    io::print_decimal(STDOUT, number as u64);
     text(b" ");
     text(name);
     text(b"\n");
@@ -181,13 +183,13 @@ fn return_of_alpha() -> usize {
 }
 
 fn text(s: &[u8]) {
-    io::write_all(STDOUT_FILENO, s);
+    io::write_all(STDOUT, s);
 }
 
 fn number(n: usize) {
-    io::print_decimal(STDOUT_FILENO, n as u64);
+    io::print_decimal(STDOUT, n as u64);
 }
 
 fn symbol(s: u16) {
-    io::print_hex(STDOUT_FILENO, s as u64, 4);
+    io::print_hex(STDOUT, s as u64, 4);
 }
