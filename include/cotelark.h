@@ -1,6 +1,6 @@
 /*
  * Cotelark's C interface: page signatures, the signature map of a bucket, stores, loads and repairs, and caption fields.
- * The functions are those of the crate `cotelark`, each proved to meet its contract for every input; the archive is made by `rt staticlib cotelark`.
+ * The functions are those of the crate `cotelark`, each proved to meet its contract for every input; the archive is made by `make archive`.
  *
  * Every function answers a status: 0, or the number of the refusal, the lowest that applies.
  *

@@ -13,7 +13,7 @@ fn main() {
     let archive = folder.join("libcotelark.a");
     println!("cargo:rerun-if-changed={}", archive.display());
     if !archive.is_file() {
-        eprintln!("There is no {}: `rt staticlib cotelark`, run in the repository's root, makes it.", archive.display());
+        eprintln!("There is no {}: `make archive`, run in the repository's root, makes it.", archive.display());
         std::process::exit(1);
     }
     println!("cargo:rustc-link-search=native={}", folder.display());
