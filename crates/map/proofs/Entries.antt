@@ -39,6 +39,13 @@ module _ (n : ℕ) (bytes : List ℕ) where
   unfolding entry_tests
   end_broken at e = simp (lt-leb _ _ e)
 
+  -- the same, where a loop that counts down has come to its end
+  pub ends_kept : (left at : ℕ) → left ≤ 0 → length bytes ≤ at → first (entry_tests n bytes left at) ≡ Allowed
+  ends_kept left at none e = let is : left ≡ 0 = omega arith in ap (λ (m : ℕ). first (entry_tests n bytes m at)) is ∙ end_kept at e
+
+  pub ends_broken : (left at : ℕ) → left ≤ 0 → at < length bytes → first (entry_tests n bytes left at) ≡ Refused (record { number = MAP; value = at })
+  ends_broken left at none e = let is : left ≡ 0 = omega arith in ap (λ (m : ℕ). first (entry_tests n bytes m at)) is ∙ end_broken at e
+
   pub entry_due : n ≤ 4 → (at : ℕ) → is_due 4 (field_at n bytes at) ≡ true → Due 4 (2 * n) bytes at
   entry_due small at e = is_due_lem n 4 (2 * n) bytes at (entry_rule n small) e
 

@@ -106,6 +106,7 @@ fn read_header(map: &[u8]) -> Reading
 }
 
 // One entry a page, and nothing after the last.
+#[tactic(auto, using(crate::proofs::Entries::ends_kept, crate::proofs::Entries::ends_broken))]
 fn read_entries(h: Header, map: &[u8]) -> Reading
     requires { h.n ≤ 4 }
     ensures { result ≡ told (first (entry_tests h.n map.now (header_pages h) 18)) h }

@@ -1,6 +1,6 @@
 -- What a page's answer says of the page, and what a repair is on a backup that was opened.
 -- Assumes nothing.
-use mathlib.Core.Path.{◌≡◌, refl, subst}
+use mathlib.Core.Path.{◌≡◌, refl, sym, ap, ◌∙◌, subst}
 use mathlib.Core.Bool.{Bool, true, false, cond}
 use mathlib.Core.List.{List}
 use Prim.Native.Nat.{ℕ, ◌≤◌, ◌<◌}
@@ -19,6 +19,7 @@ use Rattle.map.specs.declared.Entry.{Entry}
 use Rattle.map.specs.declared.Header.{Header}
 use Rattle.backup.specs.Backups.{same}
 use Rattle.repair.specs.Changes.{fits, value_at, position}
+use Rattle.repair.specs.declared.Repair.{Repair}
 use Rattle.repair.specs.Repairs.{change_of, put, mended, outcome_of, image_left, open_repair}
 use Rattle.repair.specs.declared.Change.{Change}
 use Rattle.repair.specs.declared.Repair.TheVariants.{Whole, Repaired, Beyond, Refused}
@@ -71,6 +72,9 @@ module _ (h : Header) (image map : List ℕ) (k : ℕ) where
   pub open_thin : k < pages h → h.n < 2 → open_repair h image map k ≡ outcome_of (Refused (record { number = THIN; value = 0 })) image
   unfolding open_repair
   open_thin inside thin = simp (lt-leb _ _ inside, lt-ltb _ _ thin)
+
+  pub open_thin_as : {r : Repair} → k < pages h → h.n < 2 → r ≡ Refused (record { number = THIN; value = 0 }) → outcome_of r image ≡ open_repair h image map k
+  open_thin_as inside thin is = ap (λ (r : Repair). outcome_of r image) is ∙ sym (open_thin inside thin)
 
   pub open_mends : k < pages h → 2 ≤ h.n
       → open_repair h image map k

@@ -51,6 +51,7 @@ pub fn repair_page(image: &mut [u8], map: &[u8], k: usize) -> Repair
 }
 
 // The same on a backup that was opened.
+#[tactic(auto, using(crate::proofs::Mending::open_thin_as))]
 fn repair_on(h: Header, image: &mut [u8], map: &[u8], k: usize) -> Repair
     requires { (reading map.now ≡ Holds h) × (length image.old ≡ h.bucket.count) }
     ensures { outcome_of result image.new ≡ open_repair h image.old map.now k }

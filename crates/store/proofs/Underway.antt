@@ -9,8 +9,8 @@ use native.Mathlib.Nat.{le_refl}
 use native.Mathlib.Decide.{dec_lt}
 use native.Mathlib.Omega.{arith}
 use lib.ListN.{length, set}
-use borrow.Author.Tests.{le-ltb, eq-eqb, ne_eqb}
-use Rattle.units.specs.declared.Listed.TheVariants.{Numbers}
+use borrow.Author.Tests.{le-ltb, lt-ltb, eq-eqb, ne_eqb}
+use Rattle.units.specs.declared.Listed.TheVariants.{Numbers, Refused}
 use Rattle.units.specs.declared.Verdict.{Verdict}
 use Rattle.units.proofs.Noting as Noting
 use Rattle.signature.specs.Objects.{Octets}
@@ -39,6 +39,14 @@ pub record Through (h : Header) (table image₀ map₀ : List ℕ) (k : ℕ) (im
   pub within : k ≤ pages h
   pub image_is : image ≡ (stored h table (backup_in h.n image₀ map₀) k).image
   pub map_is : map ≡ file h (stored h table (backup_in h.n image₀ map₀) k).entry
+
+-- a list without room for every page is refused
+pub no_room : (h : Header) (table image map list : List ℕ) {count : ℕ} → count ≡ pages h → length list < count
+    → stored_of (Refused (record { number = 7; value = count })) image map list ≡ open_store h table image map list
+unfolding open_store
+no_room h table image map list is short =
+    let few : length list < pages h = omega (arith, is) in
+    ap (λ (k : ℕ). stored_of (Refused (record { number = 7; value = k })) image map list) is ∙ sym (simp (lt-ltb _ _ few))
 
 -- what a store may start from
 pub record Ready (h : Header) (table image map : List ℕ) : Type 0 where

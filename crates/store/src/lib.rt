@@ -126,6 +126,7 @@ pub fn store(table: &[u8], image: &mut [u8], map: &mut [u8], list: &mut [usize])
 }
 
 // The same on a backup that was opened: step by step, until one says that the store is finished.
+#[tactic(auto, using(crate::proofs::Underway::no_room))]
 fn store_on(h: Header, table: &[u8], image: &mut [u8], map: &mut [u8], list: &mut [usize]) -> Listed
     requires { (reading map.old ≡ Holds h) × (length table.now ≡ h.bucket.count) × (length image.old ≡ h.bucket.count) }
     ensures { stored_of result image.new map.new list.new ≡ open_store h table.now image.old map.old list.old }

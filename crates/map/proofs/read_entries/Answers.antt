@@ -8,7 +8,7 @@ use Rattle.units.specs.Refusals.{first}
 use Rattle.units.specs.declared.Verdict.{Verdict}
 use Rattle.reader.specs.Fields.{field_at, is_due}
 use Rattle.map.specs.Reading.{entry_tests, told}
-use Rattle.map.proofs.Entries.{entry_kept, entry_broken, end_kept, end_broken, entry_due}
+use Rattle.map.proofs.Entries.{entry_kept, entry_broken, entry_due}
 use Rattle.reader.proofs.Due.{Due}
 use Rattle.map.proofs.read_entries.Goals as goal
 
@@ -37,19 +37,3 @@ loop-left-preserved c =
     let is_due_lem : is_due 4 (field_at args.h.n args.map.now at.at) ≡ true = sym c.due.ensures ∙ c.if-not-due.false in
     let up : at.left ≡ suc (at.left - 1) = omega arith in
     sym (entry_kept args.h.n args.map.now (at.left - 1) at.at is_due_lem) ∙ ap (λ (m : ℕ). first (entry_tests args.h.n args.map.now m at.at)) (sym up) ∙ at.invariant
-
-pub returns-then-at-map : goal.returns-then-at-map
-returns-then-at-map c =
-    let args : _ = c.args in
-    let at : _ = c.loop-left in
-    let none : at.left ≡ 0 = omega arith in
-    ap (λ (v : Verdict). told v args.h)
-    (sym (end_broken args.h.n args.map.now at.at c.if-at-map.true) ∙ ap (λ (m : ℕ). first (entry_tests args.h.n args.map.now m at.at)) (sym none) ∙ at.invariant)
-
-pub returns : goal.returns
-returns c =
-    let args : _ = c.args in
-    let at : _ = c.loop-left in
-    let none : at.left ≡ 0 = omega arith in
-    ap (λ (v : Verdict). told v args.h)
-    (sym (end_kept args.h.n args.map.now at.at c.if-at-map.false) ∙ ap (λ (m : ℕ). first (entry_tests args.h.n args.map.now m at.at)) (sym none) ∙ at.invariant)

@@ -2,7 +2,7 @@
 -- Assumes nothing.
 use mathlib.Core.Path.{◌≡◌, sym, ap, ap₂, ◌∙◌}
 use mathlib.Core.List.{List}
-use Prim.Native.Nat.{ℕ, ◌*◌, ◌≤◌, ◌<◌}
+use Prim.Native.Nat.{ℕ, ◌*◌, ◌≤◌}
 use native.Mathlib.Omega.{arith}
 use Rattle.units.specs.Writing.{written}
 use Rattle.map.specs.Buckets.{page_at}
@@ -12,7 +12,7 @@ use Rattle.map.specs.declared.Entry.{Entry}
 use Rattle.repair.specs.Repairs.{mended, page_left, outcome_of, image_left}
 use Rattle.repair.specs.declared.Repair.{Repair}
 use Rattle.repair.proofs.Lending.{Lent, lent_inside, lent_four, lent_page, lent_short, put_back}
-use Rattle.repair.proofs.Mending.{open_past, open_thin, open_mends}
+use Rattle.repair.proofs.Mending.{open_past, open_mends}
 use Rattle.repair.proofs.repair_on.Goals as goal
 
 pub returns-then-k-pages : goal.returns-then-k-pages
@@ -20,12 +20,6 @@ returns-then-k-pages c =
     let args : _ = c.args in
     let past : pages args.h ≤ args.k = omega (arith, c.pages.ensures) in
     ap (λ (r : Repair). outcome_of r args.image.now) c.refused.ensures ∙ sym (open_past args.h args.image.now args.map.now args.k past)
-
-pub returns-then-h-lt2 : goal.returns-then-h-lt2
-returns-then-h-lt2 c =
-    let args : _ = c.args in
-    let inside : args.k < pages args.h = omega (arith, c.pages.ensures) in
-    ap (λ (r : Repair). outcome_of r args.image.now) c.refused-then-h-lt2.ensures ∙ sym (open_thin args.h args.image.now args.map.now args.k inside c.if-h-lt2.true)
 
 pub slice_bounds-mend-end : goal.slice_bounds-mend-end
 slice_bounds-mend-end c =
@@ -39,7 +33,7 @@ mend-requires c =
     let lent : Lent c.args.h c.args.image.now c.args.map.now c.args.k c.page_at.result.now =
     record { holds = c.requires.0; long = c.requires.1; inside = omega (arith, c.pages.ensures, c.if-k-pages.false); is = c.page_at.ensures } in
     let n : _ = ap (λ (e : Entry). e.signature.n) c.entry_at-entry.ensures in
-    record { some = omega (arith, n, c.if-h-lt2.false); four = omega (arith, n, lent_four lent); short = lent_short lent }
+    record { some = omega (arith, n); four = omega (arith, n, lent_four lent); short = lent_short lent }
 
 pub returns : goal.returns
 unfolding image_left
@@ -54,4 +48,4 @@ returns c =
     ap (outcome_of mend.result)
     (put_back lent mend.new.page mend.auto.page ∙ ap (written image (args.k * args.h.page.count)) (mend.ensures.1 ∙ ap (page_left mend.result) (lent_page lent)))
     ∙ ap (λ (r : Repair). outcome_of r (image_left args.h r image args.k)) answer
-    ∙ sym (open_mends args.h image args.map.now args.k lent.inside (omega (arith, c.if-h-lt2.false)))
+    ∙ sym (open_mends args.h image args.map.now args.k lent.inside (omega arith))

@@ -4,17 +4,16 @@ use Rattle.std.proofs.Common.{List, get_or, Fits, w8}
 use Rattle.map.specs.Reading.{reading}
 use Rattle.map.specs.declared.Reading.TheVariants.{Holds}
 use Rattle.map.specs.declared.Header.{Header}
-use mathlib.Core.Path.{◌≡◌, sym, ap, ap₂, ◌∙◌}
-use Prim.Native.Nat.{ℕ, ◌≤◌, ◌<◌}
+use mathlib.Core.Path.{◌≡◌, ap, ap₂, ◌∙◌}
+use Prim.Native.Nat.{ℕ, ◌≤◌}
 use native.Mathlib.Omega.{arith}
 use lib.ListN.{length}
-use borrow.Author.Tests.{lt-ltb}
 use Rattle.units.specs.declared.Listed.{Listed}
-use Rattle.units.specs.declared.Listed.TheVariants.{Numbers, Refused}
+use Rattle.units.specs.declared.Listed.TheVariants.{Numbers}
 use Rattle.map.specs.Files.{pages}
 use Rattle.map.proofs.Holding.{holds_sized}
 use Rattle.backup.proofs.Bounds.{few_pages}
-use Rattle.store.specs.Stores.{open_store, stored_of, ended_by}
+use Rattle.store.specs.Stores.{stored_of, ended_by}
 use Rattle.store.specs.declared.Answer.{Answer}
 use Rattle.store.proofs.Underway.{none_noted, noted_below, noted_length, noted_kept, noted_written, none_through, through_reads, through_length}
 use Rattle.store.proofs.Underway.{Ready, Passed, Done, on_kept, on_written, on_neither, all_through}
@@ -32,14 +31,6 @@ ready_at table_fits map_fits pre =
       image_length = pre.2;
     }
 
-pub returns-then-list-count : goal.returns-then-list-count
-unfolding open_store
-returns-then-list-count c =
-    let args : _ = c.args in
-    let short : length args.list.now < pages args.h = omega (arith, c.pages-count.ensures) in
-    ap (λ (k : ℕ). stored_of (Refused (record { number = 7; value = k })) args.image.now args.map.now args.list.now) c.pages-count.ensures
-    ∙ sym (simp (lt-ltb _ _ short))
-
 pub loop-k-init : goal.loop-k-init
 loop-k-init c =
     (none_through (ready_at c.shared_slice_known-1.given c.slice_known-2-1.given c.requires), none_noted)
@@ -52,7 +43,7 @@ step_on-step-requires c =
 pub returns-in_default-answer : goal.returns-in_default-answer
 returns-in_default-answer c =
     let ready : Ready c.args.h c.args.table.now c.args.image.now c.args.map.now = ready_at c.shared_slice_known-1.given c.slice_known-2-1.given c.requires in
-    let enough : pages c.args.h ≤ length c.args.list.now = omega (arith, c.pages-count.ensures, c.if-list-count.false) in
+    let enough : pages c.args.h ≤ length c.args.list.now = omega (arith, c.pages-count.ensures) in
     let loop : _ = c.loop-k in
     let step-on : _ = c.step_on-step in
     let d : Done ready loop.invariant.0 step-on.ensures = on_neither ready loop.invariant.0 step-on.ensures c.in_default-answer.not-Kept c.in_default.not-Written in
@@ -86,7 +77,7 @@ pub bounds-list-found : goal.bounds-list-found
 bounds-list-found c =
     let args : _ = c.args in
     let ready : Ready c.args.h c.args.table.now c.args.image.now c.args.map.now = ready_at c.shared_slice_known-1.given c.slice_known-2-1.given c.requires in
-    let enough : pages c.args.h ≤ length c.args.list.now = omega (arith, c.pages-count.ensures, c.if-list-count.false) in
+    let enough : pages c.args.h ≤ length c.args.list.now = omega (arith, c.pages-count.ensures) in
     let loop : _ = c.loop-k in
     let step-on : _ = c.step_on-step in
     let p : Passed ready loop.invariant.0 step-on.ensures = (on_written ready loop.invariant.0 step-on.ensures c.in-Written.is).0 in
@@ -109,7 +100,7 @@ loop-k-smaller c =
 pub loop-k-preserved : goal.loop-k-preserved
 loop-k-preserved c =
     let ready : Ready c.args.h c.args.table.now c.args.image.now c.args.map.now = ready_at c.shared_slice_known-1.given c.slice_known-2-1.given c.requires in
-    let enough : pages c.args.h ≤ length c.args.list.now = omega (arith, c.pages-count.ensures, c.if-list-count.false) in
+    let enough : pages c.args.h ≤ length c.args.list.now = omega (arith, c.pages-count.ensures) in
     let loop : _ = c.loop-k in
     let step-on : _ = c.step_on-step in
     let p : Passed ready loop.invariant.0 step-on.ensures × _ × _ = on_written ready loop.invariant.0 step-on.ensures c.in-Written.is in
