@@ -1,4 +1,4 @@
-# make demo: the library at work.   make test: everything that is promised, proved and run from nothing.   make fuzz: the library against the second
+# make demo: the library at work.   make test: everything that is promised, proved and run.   make fuzz: the library against the second
 # program, until they differ.   make command: the command cotelark, target/cargo/release/cotelark.   make bench: how fast it is, beside its peers.
 .PHONY: demo test fuzz bench command kit archive
 

@@ -13,7 +13,7 @@ use Rattle.reader.proofs.read_field.Reads as ReadField
 pub read_field_one_answer : OneAnswer ReadField.Post
 read_field_one_answer κs a r s x y p q = p ∙ sym q
 
--- a struct that holds a reference has no `Post` that can be named here: what follows is over the definitions that its contracts consist of
+-- what follows is over the definitions that the two contracts consist of
 
 pub new_one_answer : (bytes : Bor (List ℕ)) (place : ℕ) (r s : Reader) → r ≡ reader_at bytes place → s ≡ reader_at bytes place → r ≡ s
 new_one_answer bytes place r s p q = p ∙ sym q
