@@ -1,11 +1,11 @@
 #!/usr/bin/env python3
 """Respells the repository's own definitions and lemmas as Rattle does: words in snake case. It was run once, at the top, after port.py.
 
-usage: respell.py [--check]
+usage: respell.py [--check | --anyway]
 
 It renames what is declared in specs/ and proofs/, aliases of imports, and names with a middle dot; in .rt files only inside `ghost use` items and
 clauses. Names that come from Rattle's own libraries and the functions of src/ keep their spelling. Where two names of one file would become one, it
-says so and writes nothing.
+says so and writes nothing, but with --anyway.
 """
 
 import os
