@@ -9,5 +9,5 @@ use Rattle.map.proofs.component_at.Goals as goal
 pub overflow_cast-result : goal.overflow_cast-result
 overflow_cast-result c =
     let args : _ = c.args in
-    let small : low_first 2 args.map.now (args.at + 1 + 2 * args.j) < 65536 = low_first_lt 2 _ _ (λ k. (c.shared_slice_known-1.given k).fits) in
+    let small : low_first 2 args.map.now (args.at + 1 + 2 * args.j) < 65536 = low_first_lt 2 _ _ (λ k. (c.type_inv.map k).fits) in
     omega (arith, c.two_bytes.ensures)

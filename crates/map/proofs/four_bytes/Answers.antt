@@ -11,14 +11,14 @@ use Rattle.map.proofs.four_bytes.Goals as goal
 pub overflow_mul-result : goal.overflow_mul-result
 overflow_mul-result c =
     let args : _ = c.args in
-    let high : low_first 2 args.map.now (args.at + 2) < 65536 = low_first_lt 2 _ _ (λ k. (c.shared_slice_known-1.given k).fits) in
+    let high : low_first 2 args.map.now (args.at + 2) < 65536 = low_first_lt 2 _ _ (λ k. (c.type_inv.map k).fits) in
     omega (arith, c.two_bytes-2.ensures)
 
 pub overflow_add-result : goal.overflow_add-result
 overflow_add-result c =
     let args : _ = c.args in
-    let high : low_first 2 args.map.now (args.at + 2) < 65536 = low_first_lt 2 _ _ (λ k. (c.shared_slice_known-1.given k).fits) in
-    let low : low_first 2 args.map.now args.at < 65536 = low_first_lt 2 _ _ (λ k. (c.shared_slice_known-1.given k).fits) in
+    let high : low_first 2 args.map.now (args.at + 2) < 65536 = low_first_lt 2 _ _ (λ k. (c.type_inv.map k).fits) in
+    let low : low_first 2 args.map.now args.at < 65536 = low_first_lt 2 _ _ (λ k. (c.type_inv.map k).fits) in
     omega (arith, c.two_bytes.ensures, c.two_bytes-2.ensures)
 
 pub returns : goal.returns

@@ -26,14 +26,14 @@ overflow_add-at c =
     let args : _ = c.args in
     let required : _ = c.requires in
     let loop : _ = c.loop-left in
-    let is_due_lem : is_due 4 (field_at args.h.n args.map.now loop.at) ≡ true = sym c.due.ensures ∙ c.if-not-due.false in
-    let d : Due 4 (2 * args.h.n) args.map.now loop.at = entry_due _ _ (required) loop.at is_due_lem in
+    let due_here : is_due 4 (field_at args.h.n args.map.now loop.at) ≡ true = sym c.due.ensures ∙ c.if-not-due.false in
+    let d : Due 4 (2 * args.h.n) args.map.now loop.at = entry_due _ _ (required) loop.at due_here in
     omega arith
 
 pub loop-left-preserved : goal.loop-left-preserved
 loop-left-preserved c =
     let args : _ = c.args in
     let at : _ = c.loop-left in
-    let is_due_lem : is_due 4 (field_at args.h.n args.map.now at.at) ≡ true = sym c.due.ensures ∙ c.if-not-due.false in
+    let due_here : is_due 4 (field_at args.h.n args.map.now at.at) ≡ true = sym c.due.ensures ∙ c.if-not-due.false in
     let up : at.left ≡ suc (at.left - 1) = omega arith in
-    sym (entry_kept args.h.n args.map.now (at.left - 1) at.at is_due_lem) ∙ ap (λ (m : ℕ). first (entry_tests args.h.n args.map.now m at.at)) (sym up) ∙ at.invariant
+    sym (entry_kept args.h.n args.map.now (at.left - 1) at.at due_here) ∙ ap (λ (m : ℕ). first (entry_tests args.h.n args.map.now m at.at)) (sym up) ∙ at.invariant

@@ -16,7 +16,7 @@ pub returns : goal.returns
 returns c =
     let edits : Edits c.args.s c.args.own c.args.page.now c.args.i.count c.args.x c.low_bytes-old.result c.low_bytes-new.result c.edit-edited.result =
     record {
-      octets = λ k. (c.shared_slice_known-1.given k).fits;
+      octets = λ k. (c.type_inv.page k).fits;
       tells = c.requires.0;
       signed = c.requires.1;
       inside = c.requires.2;

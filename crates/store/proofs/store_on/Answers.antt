@@ -19,7 +19,7 @@ use Rattle.store.proofs.Underway.{none_noted, noted_below, noted_length, noted_k
 use Rattle.store.proofs.Underway.{Ready, Passed, Done, on_kept, on_written, on_neither, all_through}
 use Rattle.store.proofs.store_on.Goals as goal
 
--- the map was read, and the list has room for every page
+-- the map was read, and table and image are of its length
 ready_at : {h : Header} {table image map : List ℕ} → ((i : ℕ) → Fits w8 (get_or table i 0)) → ((i : ℕ) → Fits w8 (get_or map i 0))
     → (reading map ≡ Holds h) × (length table ≡ h.bucket.count) × (length image ≡ h.bucket.count) → Ready h table image map
 ready_at table_fits map_fits pre =
@@ -33,16 +33,20 @@ ready_at table_fits map_fits pre =
 
 pub loop-k-init : goal.loop-k-init
 loop-k-init c =
-    (none_through (ready_at c.shared_slice_known-1.given c.slice_known-2-1.given c.requires), none_noted)
+    let ready : Ready c.args.h c.args.table.now c.args.image.now c.args.map.now =
+    ready_at c.type_inv.table c.slice_known-2-1.given c.requires in
+    (none_through ready, none_noted)
 
 pub step_on-step-requires : goal.step_on-step-requires
 step_on-step-requires c =
-    let pre : _ = c.requires in
-    (through_reads (ready_at c.shared_slice_known-1.given c.slice_known-2-1.given c.requires) c.loop-k.invariant.0, pre.1, through_length (ready_at c.shared_slice_known-1.given c.slice_known-2-1.given c.requires) c.loop-k.invariant.0)
+    let ready : Ready c.args.h c.args.table.now c.args.image.now c.args.map.now =
+    ready_at c.type_inv.table c.slice_known-2-1.given c.requires in
+    (through_reads ready c.loop-k.invariant.0, c.requires.1, through_length ready c.loop-k.invariant.0)
 
 pub returns-in_default-answer : goal.returns-in_default-answer
 returns-in_default-answer c =
-    let ready : Ready c.args.h c.args.table.now c.args.image.now c.args.map.now = ready_at c.shared_slice_known-1.given c.slice_known-2-1.given c.requires in
+    let ready : Ready c.args.h c.args.table.now c.args.image.now c.args.map.now =
+    ready_at c.type_inv.table c.slice_known-2-1.given c.requires in
     let enough : pages c.args.h ≤ length c.args.list.now = omega (arith, c.pages-count.ensures) in
     let loop : _ = c.loop-k in
     let step-on : _ = c.step_on-step in
@@ -54,7 +58,8 @@ returns-in_default-answer c =
 
 pub loop-k-smaller-in_default : goal.loop-k-smaller-in_default
 loop-k-smaller-in_default c =
-    let ready : Ready c.args.h c.args.table.now c.args.image.now c.args.map.now = ready_at c.shared_slice_known-1.given c.slice_known-2-1.given c.requires in
+    let ready : Ready c.args.h c.args.table.now c.args.image.now c.args.map.now =
+    ready_at c.type_inv.table c.slice_known-2-1.given c.requires in
     let loop : _ = c.loop-k in
     let step-on : _ = c.step_on-step in
     let p : Passed ready loop.invariant.0 step-on.ensures = (on_kept ready loop.invariant.0 step-on.ensures c.in-Kept.is).0 in
@@ -62,7 +67,8 @@ loop-k-smaller-in_default c =
 
 pub loop-k-preserved-in_default : goal.loop-k-preserved-in_default
 loop-k-preserved-in_default c =
-    let ready : Ready c.args.h c.args.table.now c.args.image.now c.args.map.now = ready_at c.shared_slice_known-1.given c.slice_known-2-1.given c.requires in
+    let ready : Ready c.args.h c.args.table.now c.args.image.now c.args.map.now =
+    ready_at c.type_inv.table c.slice_known-2-1.given c.requires in
     let loop : _ = c.loop-k in
     let step-on : _ = c.step_on-step in
     let p : Passed ready loop.invariant.0 step-on.ensures × _ = on_kept ready loop.invariant.0 step-on.ensures c.in-Kept.is in
@@ -76,7 +82,8 @@ offset_bounds-list-found c =
 pub bounds-list-found : goal.bounds-list-found
 bounds-list-found c =
     let args : _ = c.args in
-    let ready : Ready c.args.h c.args.table.now c.args.image.now c.args.map.now = ready_at c.shared_slice_known-1.given c.slice_known-2-1.given c.requires in
+    let ready : Ready c.args.h c.args.table.now c.args.image.now c.args.map.now =
+    ready_at c.type_inv.table c.slice_known-2-1.given c.requires in
     let enough : pages c.args.h ≤ length c.args.list.now = omega (arith, c.pages-count.ensures) in
     let loop : _ = c.loop-k in
     let step-on : _ = c.step_on-step in
@@ -91,7 +98,8 @@ overflow_add-found c =
 
 pub loop-k-smaller : goal.loop-k-smaller
 loop-k-smaller c =
-    let ready : Ready c.args.h c.args.table.now c.args.image.now c.args.map.now = ready_at c.shared_slice_known-1.given c.slice_known-2-1.given c.requires in
+    let ready : Ready c.args.h c.args.table.now c.args.image.now c.args.map.now =
+    ready_at c.type_inv.table c.slice_known-2-1.given c.requires in
     let loop : _ = c.loop-k in
     let step-on : _ = c.step_on-step in
     let p : Passed ready loop.invariant.0 step-on.ensures = (on_written ready loop.invariant.0 step-on.ensures c.in-Written.is).0 in
@@ -99,7 +107,8 @@ loop-k-smaller c =
 
 pub loop-k-preserved : goal.loop-k-preserved
 loop-k-preserved c =
-    let ready : Ready c.args.h c.args.table.now c.args.image.now c.args.map.now = ready_at c.shared_slice_known-1.given c.slice_known-2-1.given c.requires in
+    let ready : Ready c.args.h c.args.table.now c.args.image.now c.args.map.now =
+    ready_at c.type_inv.table c.slice_known-2-1.given c.requires in
     let enough : pages c.args.h ≤ length c.args.list.now = omega (arith, c.pages-count.ensures) in
     let loop : _ = c.loop-k in
     let step-on : _ = c.step_on-step in

@@ -1,7 +1,7 @@
 -- `map::making::make` meets its contract: each return is the definition at the tests that led there; header and entries are the file.
 -- Assumes nothing.
 use mathlib.Core.Path.{◌≡◌, sym, ap, ap₂, ◌∙◌}
-use mathlib.Core.Bool.{true, false}
+use mathlib.Core.Bool.{Bool, true, false}
 use mathlib.Core.List.{List}
 use Prim.Native.Nat.{ℕ, ◌≤◌, ◌<◌}
 use native.Mathlib.Omega.{arith}
@@ -18,6 +18,16 @@ use Rattle.map.specs.Files.{place, entries}
 use Rattle.map.proofs.MadeMaps.{file_written}
 use Rattle.map.proofs.Contents.{Sized}
 use Rattle.map.proofs.making.make.Goals as goal
+
+-- no size test applies
+sized_at : (bucket : List ℕ) {n page count : ℕ} {n_ok page_ok bucket_ok : Bool} → n_ok ≡ n_allowed n → n_ok ≡ true → page_ok ≡ page_allowed page → page_ok ≡ true
+    → count ≡ pages_in page (length bucket) → bucket_ok ≡ bucket_allowed (length bucket) count → bucket_ok ≡ true → Sized (made_header n page bucket)
+sized_at bucket n_is n_fits page_is page_fits counted bucket_is bucket_fits =
+    record {
+      n_fits = sym n_is ∙ n_fits;
+      page_fits = sym page_is ∙ page_fits;
+      bucket_fits = ap (bucket_allowed (length bucket)) (sym counted) ∙ sym bucket_is ∙ bucket_fits;
+    }
 
 pub returns-then-not-n_allowed : goal.returns-then-not-n_allowed
 unfolding making
@@ -55,11 +65,7 @@ unfolding making
 returns-then-output-needed c =
     let pages-of : _ = c.pages_of-count in
     let args : _ = c.args in
-    let fits : Sized (made_header args.n args.page.count args.bucket.now) = record {
-      n_fits = sym c.n_allowed.ensures ∙ c.if-not-n_allowed.false;
-      page_fits = sym c.page_allowed.ensures ∙ c.if-not-page_allowed.false;
-      bucket_fits = ap (bucket_allowed (length args.bucket.now)) (sym c.pages_of-count.ensures) ∙ sym c.bucket_allowed.ensures ∙ c.if-not-bucket_allowed.false;
-    } in
+    let fits : Sized (made_header args.n args.page.count args.bucket.now) = sized_at args.bucket.now c.n_allowed.ensures c.if-not-n_allowed.false c.page_allowed.ensures c.if-not-page_allowed.false c.pages_of-count.ensures c.bucket_allowed.ensures c.if-not-bucket_allowed.false in
     let size : place args.n pages-of.result ≡ needed args.n args.page.count args.bucket.now = ap (place args.n) pages-of.ensures in
     let short : length args.output.now < needed args.n args.page.count args.bucket.now = omega arith in
     simp (fits.n_fits, fits.page_fits, fits.bucket_fits, lt-ltb _ _ short)
@@ -73,11 +79,7 @@ returns c =
     let put-header : _ = c.put_header in
     let put_entries : _ = c.put_entries in
     let args : _ = c.args in
-    let fits : Sized (made_header args.n args.page.count args.bucket.now) = record {
-      n_fits = sym c.n_allowed.ensures ∙ c.if-not-n_allowed.false;
-      page_fits = sym c.page_allowed.ensures ∙ c.if-not-page_allowed.false;
-      bucket_fits = ap (bucket_allowed (length args.bucket.now)) (sym c.pages_of-count.ensures) ∙ sym c.bucket_allowed.ensures ∙ c.if-not-bucket_allowed.false;
-    } in
+    let fits : Sized (made_header args.n args.page.count args.bucket.now) = sized_at args.bucket.now c.n_allowed.ensures c.if-not-n_allowed.false c.page_allowed.ensures c.if-not-page_allowed.false c.pages_of-count.ensures c.bucket_allowed.ensures c.if-not-bucket_allowed.false in
     let size : place args.n pages-of.result ≡ needed args.n args.page.count args.bucket.now = ap (place args.n) pages-of.ensures in
     let enough : needed args.n args.page.count args.bucket.now ≤ length args.output.now = omega (arith, if4.false) in
     let all : put_entries.new.output ≡ written args.output.now 0 (made args.n args.page.count args.bucket.now) =
