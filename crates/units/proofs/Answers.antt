@@ -12,7 +12,8 @@ use Rattle.units.proofs.page_allowed.Reads as PageAllowed
 use Rattle.units.proofs.object_allowed.Reads as ObjectAllowed
 use Rattle.units.proofs.bucket_allowed.Reads as BucketAllowed
 use Rattle.units.proofs.caption_allowed.Reads as CaptionAllowed
-use Rattle.units.proofs.refused.Reads as Refused
+use Rattle.units.proofs.Refusal.number.Reads as RefusalNumber
+use Rattle.units.proofs.Refusal.value.Reads as RefusalValue
 use Rattle.units.proofs.put_part.Reads as PutPart
 
 pub symbols_of_one_answer : OneAnswer SymbolsOf.Post
@@ -45,8 +46,11 @@ bucket_allowed_one_answer κs a r s x y p q = p ∙ sym q
 pub caption_allowed_one_answer : OneAnswer CaptionAllowed.Post
 caption_allowed_one_answer κs a r s x y p q = p ∙ sym q
 
-pub refused_one_answer : OneAnswer Refused.Post
-refused_one_answer κs a r s x y p q = p ∙ sym q
+pub number_one_answer : OneAnswer RefusalNumber.Post
+number_one_answer κs a r s x y p q = p ∙ sym q
+
+pub value_one_answer : OneAnswer RefusalValue.Post
+value_one_answer κs a r s x y p q = p ∙ sym q
 
 pub put_part_one_answer : (κs : _) (a : _) (r s : _) (x y : _) → PutPart.Post κs a r x → PutPart.Post κs a s y → x.1.0.now ≡ y.1.0.now
 put_part_one_answer κs a r s x y p q = p ∙ sym q

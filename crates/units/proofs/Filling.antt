@@ -13,28 +13,29 @@ use Rattle.units.specs.Refusals.{Test, first}
 use Rattle.units.specs.Writing.{written}
 use Rattle.units.specs.Filling.{outcome, filling, told}
 use Rattle.units.specs.declared.Refusal.{Refusal}
-use Rattle.units.specs.declared.Verdict.{Verdict}
-use Rattle.units.specs.declared.Verdict.TheVariants.{Allowed, Refused}
+use Rattle.units.specs.Refusals.{Verdict}
 use Rattle.units.proofs.Refusing.{Lowest, ascending, told_lowest, allowed_not_refused}
 use Rattle.units.proofs.Writing.{written_inside, written_after}
+use Rattle.std.specs.Prelude.{Ok, Err}
+use Rattle.units.specs.Refusals.{allowed, refused}
 
 module _ (size : ℕ) (new output : List ℕ) where
   told_outcome : (v : Verdict) → told (outcome v size new output).answer ≡ v
-  told_outcome Allowed = refl
-  told_outcome (Refused r) = refl
+  told_outcome (Ok _) = refl
+  told_outcome (Err r) = refl
 
-  refused_outcome : (v : Verdict) (r : Refusal) → told (outcome v size new output).answer ≡ Refused r → (outcome v size new output).output ≡ output
-  refused_outcome Allowed r e = absurd (allowed_not_refused r e)
-  refused_outcome (Refused s) r e = refl
+  refused_outcome : (v : Verdict) (r : Refusal) → told (outcome v size new output).answer ≡ refused r → (outcome v size new output).output ≡ output
+  refused_outcome (Ok _) r e = absurd (allowed_not_refused r e)
+  refused_outcome (Err s) r e = refl
 
   module _ (tests : List Test) where
-    pub filling_refused : T (ascending tests) → (r : Refusal) → (told (filling tests size new output).answer ≡ Refused r) ↔ Lowest tests r
+    pub filling_refused : T (ascending tests) → (r : Refusal) → (told (filling tests size new output).answer ≡ refused r) ↔ Lowest tests r
     filling_refused up r = told_lowest _ tests (told_outcome (first tests)) up r
 
-    pub filling_refused_keeps : (r : Refusal) → told (filling tests size new output).answer ≡ Refused r → (filling tests size new output).output ≡ output
+    pub filling_refused_keeps : (r : Refusal) → told (filling tests size new output).answer ≡ refused r → (filling tests size new output).output ≡ output
     filling_refused_keeps r e = refused_outcome (first tests) r e
 
-    module _ (sized : length new ≡ size) (fits : size ≤ length output) (allowed : first tests ≡ Allowed) where
+    module _ (sized : length new ≡ size) (fits : size ≤ length output) (allowed : first tests ≡ allowed) where
       long : 0 + length new ≤ length output
       long = omega arith
 

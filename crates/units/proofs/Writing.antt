@@ -8,7 +8,8 @@ use native.Mathlib.Nat.{add-zero, add-suc, suc-add, le_refl}
 use native.Mathlib.Numerals.{add-one}
 use native.Mathlib.Omega.{arith}
 use lib.ListN.{length, get_or, take, drop, set, length-append, length-set, drop_of_length-le, get_or-append}
-use lib.Seq.{sets, sets-eq, length-sets, length-take-le, set_comm, take_at, drop_at, get_or-take, get_or-drop}
+use lib.Seq.{drop-drop, sets, sets-eq, length-sets, length-take-le, set_comm, take_at, drop_at, get_or-take, get_or-drop}
+use borrow.Rule.Slice.PartMut.{put_mid}
 use borrow.Author.Tests.{le-leb, lt-leb}
 use Rattle.units.specs.Writing.{written, part_put, Put, put_of, put}
 
@@ -164,3 +165,15 @@ unfolding written
 written_whole old new long =
     let past : length old ≤ 0 + length new = omega arith in
     ap (λ (l : List ℕ). new ++ l) (drop_of_length-le old past) ∙ append-nil new
+
+-- a part copied over a slice of the buffer that is as long, and one that finds no room
+pub part_copied : (part old new : List ℕ) (at size : ℕ) → new ≡ part → size ≡ length part → at + length part ≤ length old
+    → put_mid at size old new ≡ part_put part old at
+unfolding written
+part_copied part old new at size same long fits =
+    ap (put_mid at size old) same
+    ∙ ap (λ (l : List ℕ). take at old ++ (part ++ l)) (drop-drop size at old ∙ ap (λ (k : ℕ). drop (at + k) old) long)
+    ∙ sym (part_put_lem part old at fits)
+
+pub part_passed : (part old : List ℕ) (at : ℕ) → length old < at + length part → old ≡ part_put part old at
+part_passed part old at short = sym (part_not_put part old at short)

@@ -1,8 +1,7 @@
 -- The numbers that a test names, in order, and what is answered by an operation that lists them.
-use Rattle.std.specs.Prelude.{Bool, cond, List, [], ◌∷◌, ◌++◌, ℕ, zero, suc, ◌<◌, length, get_or}
-use Rattle.units.specs.declared.Listed.{Listed}
-use Rattle.units.specs.declared.Listed.TheVariants.{Numbers, Refused}
-use Rattle.units.specs.declared.Verdict.{Verdict}
+use Rattle.std.specs.Prelude.{Bool, cond, List, [], ◌∷◌, ◌++◌, ℕ, zero, suc, ◌<◌, length, get_or, Result, Ok, Err}
+use Rattle.units.specs.declared.Refusal.{Refusal}
+use Rattle.units.specs.Refusals.{Verdict, allowed, refused}
 
 -- those below m, upward
 unfoldable pub named : (ℕ → Bool) → ℕ → List ℕ
@@ -18,7 +17,11 @@ first_named test (suc m) k = cond (test k) k (first_named test m (suc k))
 abbrev pub Upward : List ℕ → Type 0
 Upward l = (i j : ℕ) → i < j → j < length l → get_or l i 0 < get_or l j 0
 
+-- how many numbers were put at the start of a lent list, or why none
+abbrev pub Listed : Type 0
+Listed = Result ℕ Refusal
+
 -- what the table says of an answer
 abbrev pub told : Listed → Verdict
-told (Numbers count) = Verdict.Allowed
-told (Refused r) = Verdict.Refused r
+told (Ok count) = allowed
+told (Err r) = refused r

@@ -1,8 +1,7 @@
 -- The numbers given back when a call is turned down, and how an operation's tests choose among them: in order, the first that applies.
-use Rattle.std.specs.Prelude.{ℕ, Bool, cond, List, [], ◌∷◌}
+use Rattle.std.specs.Prelude.{ℕ, Bool, cond, List, [], ◌∷◌, Result, Ok, Err, ⊤}
 use Rattle.units.specs.declared.Refusal.{Refusal}
-use Rattle.units.specs.declared.Verdict.{Verdict}
-use Rattle.units.specs.declared.Verdict.TheVariants.{Allowed, Refused}
+use Rattle.units.specs.declared.Refusal.TheVariants.{Size, Page, Long, Odd, Map, Match, Room, Empty, PageNo, Damaged, Thin}
 
 abbrev pub SIZE : ℕ
 SIZE = 1
@@ -37,14 +36,50 @@ DAMAGED = 10
 abbrev pub THIN : ℕ
 THIN = 14
 
+abbrev pub number : Refusal → ℕ
+number Size = SIZE
+number Page = PAGE
+number Long = LONG
+number Odd = ODD
+number (Map place) = MAP
+number Match = MATCH
+number (Room needed) = ROOM
+number Empty = EMPTY
+number PageNo = PAGENO
+number (Damaged page) = DAMAGED
+number Thin = THIN
+
+-- the value that the table gives beside the number
+abbrev pub value : Refusal → ℕ
+value Size = 0
+value Page = 0
+value Long = 0
+value Odd = 0
+value (Map place) = place
+value Match = 0
+value (Room needed) = needed
+value Empty = 0
+value PageNo = 0
+value (Damaged page) = page
+value Thin = 0
+
+-- what an operation's tests say of a call: that it is allowed, or why it is refused
+abbrev pub Verdict : Type 0
+Verdict = Result ⊤ Refusal
+
+abbrev pub allowed : Verdict
+allowed = Ok tt
+
+abbrev pub refused : Refusal → Verdict
+refused r = Err r
+
 pub record Test : Type 0 where
   pub applies : Bool
   pub refusal : Refusal
 
--- a test whose refusal has the value 0
-abbrev pub gives : ℕ → Bool → Test
-gives number applies = record { applies = applies; refusal = record { number = number; value = 0 } }
+abbrev pub gives : Refusal → Bool → Test
+gives refusal applies = record { applies = applies; refusal = refusal }
 
 abbrev pub first : List Test → Verdict
-first [] = Allowed
-first (t ∷ ts) = cond t.applies (Refused t.refusal) (first ts)
+first [] = allowed
+first (t ∷ ts) = cond t.applies (refused t.refusal) (first ts)

@@ -1,23 +1,27 @@
-// Counts that carry their own name, the sizes that are allowed, a refusal's number with the value beside it, and a part put into a buffer.
+// Counts that carry their own name, the sizes that are allowed, the table's refusals, and a part put into a buffer.
 #![tactic(auto)]
 
 ghost use Rattle.std.specs.Prelude.{◌≡◌};
 ghost use Rattle.units.specs.Counts.{symbols_in, bytes_in, pages_in, exponent_at, exponent_back};
 ghost use Rattle.units.specs.Sizes.{n_allowed, page_allowed, object_allowed, bucket_allowed, caption_allowed};
 ghost use Rattle.units.specs.Writing.{part_put};
+ghost use Rattle.units.specs.Refusals.{number, value};
 
-#[derive(Clone, Copy)]
+use std::error::Error;
+use std::fmt;
+
+#[derive(Clone, Copy, Debug, PartialEq, Eq, Hash)]
 pub struct Bytes {
     pub count: usize,
 }
 
-#[derive(Clone, Copy)]
+#[derive(Clone, Copy, Debug, PartialEq, Eq, Hash)]
 pub struct Symbols {
     pub count: usize,
 }
 
 // An exponent of α. Whole rounds of α^65535 = 1 need not be kept in it.
-#[derive(Clone, Copy)]
+#[derive(Clone, Copy, Debug, PartialEq, Eq, Hash)]
 pub struct Exponent {
     pub power: u16,
 }
@@ -126,78 +130,81 @@ pub fn caption_allowed(caption: Symbols) -> bool
     caption.count <= CAPTION_SYMBOLS_MOST
 }
 
-// A call that is turned down: its number in the table, and the value that the table gives beside it.
-#[derive(Clone, Copy)]
-pub struct Refusal {
-    pub number: u32,
-    pub value: usize,
+// Why a call is turned down. Beside three of the reasons the table gives a value.
+#[derive(Clone, Copy, Debug, PartialEq, Eq, Hash)]
+pub enum Refusal {
+    // n outside 1 to 4
+    Size,
+    // page bytes not allowed
+    Page,
+    // a size is passed
+    Long,
+    // an odd byte length where whole symbols are due
+    Odd,
+    // the map breaks a rule, first at this place
+    Map(usize),
+    // two lengths, or two n, that belong together differ
+    Match,
+    // an output is shorter than needed, which is so much
+    Room(usize),
+    // the pattern has no symbol
+    Empty,
+    // page number not allowed
+    PageNo,
+    // this page's image signature is not its entry
+    Damaged(usize),
+    // one component tells no position
+    Thin,
 }
 
 impl Refusal {
-    // n outside 1 to 4
-    pub const SIZE: u32 = 1;
-    // page bytes not allowed
-    pub const PAGE: u32 = 2;
-    // a size is passed
-    pub const LONG: u32 = 3;
-    // an odd byte length where whole symbols are due
-    pub const ODD: u32 = 4;
-    // the map breaks a rule
-    pub const MAP: u32 = 5;
-    // two lengths, or two n, that belong together differ
-    pub const MATCH: u32 = 6;
-    // an output is shorter than needed
-    pub const ROOM: u32 = 7;
-    // the pattern has no symbol
-    pub const EMPTY: u32 = 8;
-    // page number not allowed
-    pub const PAGENO: u32 = 9;
-    // a page's image signature is not its entry
-    pub const DAMAGED: u32 = 10;
-    // one component tells no position
-    pub const THIN: u32 = 14;
+    // Its number in the table.
+    pub fn number(self) -> u32
+        ensures { result ≡ number self }
+    {
+        match self {
+            Refusal::Size => 1,
+            Refusal::Page => 2,
+            Refusal::Long => 3,
+            Refusal::Odd => 4,
+            Refusal::Map(_) => 5,
+            Refusal::Match => 6,
+            Refusal::Room(_) => 7,
+            Refusal::Empty => 8,
+            Refusal::PageNo => 9,
+            Refusal::Damaged(_) => 10,
+            Refusal::Thin => 14,
+        }
+    }
+
+    // The value that the table gives beside it.
+    pub fn value(self) -> usize
+        ensures { result ≡ value self }
+    {
+        match self {
+            Refusal::Map(x) | Refusal::Room(x) | Refusal::Damaged(x) => x,
+            _ => 0,
+        }
+    }
 }
 
-// What an operation's tests say of a call.
-#[derive(Clone, Copy)]
-pub enum Verdict {
-    Allowed,
-    Refused(Refusal),
+impl fmt::Display for Refusal {
+    fn fmt<W: fmt::Write>(&self, f: &mut fmt::Formatter<W>) -> fmt::Result {
+        let number = self.number();
+        let value = self.value();
+        write!(f, "refused {number} {value}")
+    }
 }
 
-// What an operation answers that fills the start of a lent output.
-#[derive(Clone, Copy)]
-pub enum Filled {
-    Written(Bytes),
-    Refused(Refusal),
-}
-
-pub fn refused(number: u32, value: usize) -> Filled
-    ensures { result ≡ Filled.Refused (record { number = number; value = value }) }
-{
-    Filled::Refused(Refusal { number, value })
-}
-
-// What an operation answers that puts numbers at the start of a lent list: how many.
-#[derive(Clone, Copy)]
-pub enum Listed {
-    Numbers(usize),
-    Refused(Refusal),
-}
+impl Error for Refusal {}
 
 // A part written over what stood there. Where there is no room for it, all stays as it was.
+#[tactic(auto, using(crate::proofs::Writing::part_copied, crate::proofs::Writing::part_passed))]
 pub fn put_part(part: &[u8], buffer: &mut [u8], at: usize)
     ensures { buffer.new ≡ part_put part.now buffer.old at }
 {
-    if buffer.len() < at {
+    if buffer.len() < at || buffer.len() - at < part.len() {
         return;
     }
-    if buffer.len() - at < part.len() {
-        return;
-    }
-    let mut i: usize = 0;
-    while i < part.len() {
-        buffer[at + i] = part[i];
-        i += 1;
-    }
+    buffer[at..at + part.len()].copy_from_slice(part);
 }
