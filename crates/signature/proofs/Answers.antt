@@ -1,5 +1,6 @@
 -- What is promised of sign, join and edit: the laws of every kind at two-byte symbols, with the scope's numbers.
 -- Assumes nothing.
+use Rattle.std.specs.Prelude.{Ok}
 use mathlib.Core.Path.{◌≡◌, refl, sym, ◌∙◌}
 use mathlib.Core.Logic.{◌≢◌}
 use mathlib.Core.Bool.{true}
@@ -16,7 +17,6 @@ use Rattle.signature.specs.Kinds.{wide}
 use Rattle.signature.specs.Operations.{own, signing, joining, editing}
 use Rattle.signature.specs.Differences.{differing}
 use Rattle.signature.specs.Edits.{Edited}
-use Rattle.signature.specs.declared.Answer.TheVariants.{Signed, Refused}
 use Rattle.signature.proofs.Parts.{whole_length}
 use Rattle.signature.proofs.Edited.{part_edited, end_edited}
 use Rattle.signature.proofs.EveryKind as Every
@@ -29,6 +29,8 @@ use Rattle.signature.proofs.symbol.Reads as Symbol
 use Rattle.signature.proofs.two_bytes.Reads as TwoBytes
 use Rattle.signature.proofs.byte.Reads as Byte
 use Rattle.signature.proofs.put_two_bytes.Reads as PutTwoBytes
+use Rattle.std.specs.Prelude.{Err}
+use Rattle.units.specs.declared.Refusal.{Refusal}
 
 -- ---- no second answer meets a contract
 
@@ -64,12 +66,12 @@ put_two_bytes_one_answer κs a r s x y p q = p ∙ sym q
 size_allowed : (n : ℕ) → 1 ≤ n → n ≤ 4 → n_allowed n ≡ true
 size_allowed n h l = simp (le-leb 1 n h, le-leb n 4 l)
 
-pub sign_within : (n : ℕ) → 1 ≤ n → n ≤ 4 → (object : List ℕ) → length object ≤ 131068 → signing wide n object ≡ Signed (own wide n object)
+pub sign_within : (n : ℕ) → 1 ≤ n → n ≤ 4 → (object : List ℕ) → length object ≤ 131068 → signing wide n object ≡ Ok (own wide n object)
 sign_within n h l object short =
     let within : symbols 2 object ≤ wide.most = omega arith in
     simp (size_allowed n h l, le-leb (symbols 2 object) wide.most within)
 
-pub sign_beyond : (n : ℕ) → 1 ≤ n → n ≤ 4 → (object : List ℕ) → 131069 ≤ length object → signing wide n object ≡ Refused (record { number = 3; value = 0 })
+pub sign_beyond : (n : ℕ) → 1 ≤ n → n ≤ 4 → (object : List ℕ) → 131069 ≤ length object → signing wide n object ≡ Err Refusal.Long
 sign_beyond n h l object long =
     let beyond : wide.most < symbols 2 object = omega arith in
     simp (size_allowed n h l, lt-leb (symbols 2 object) wide.most beyond)
@@ -109,7 +111,7 @@ pub objects_told_apart : (n : ℕ) → 1 ≤ n → n ≤ 4 → (one other : List
 objects_told_apart n h l one other one-octets other-octets lengths short some few e =
     let shorter : length other ≤ 131068 = omega arith in
     let within : symbols 2 one ≤ wide.most = omega arith in
-    let signed : Signed (own wide n one) ≡ Signed (own wide n other) = sym (sign_within n h l one short) ∙ e ∙ sign_within n h l other shorter in
+    let signed : Ok (own wide n one) ≡ Ok (own wide n other) = sym (sign_within n h l one short) ∙ e ∙ sign_within n h l other shorter in
     Every.own_apart wide Every.wide_sound n l one other one-octets other-octets lengths within some few (cc)
 
 pub pages_told_apart : (n : ℕ) → 1 ≤ n → n ≤ 4 → (one other : List ℕ) → Octets one → Octets other → length one ≡ length other → length one ≤ 65536

@@ -12,10 +12,9 @@ use lib.Dec.{T}
 use lib.ListN.{length}
 use borrow.Author.Tests.{le-leb, lt-leb, eq-eqb}
 use Rattle.units.specs.declared.Refusal.{Refusal}
-use Rattle.units.specs.declared.Verdict.{Verdict}
 use Rattle.units.specs.Counts.{symbols_in}
 use Rattle.units.specs.Sizes.{n_allowed}
-use Rattle.units.specs.Refusals.{Test, first}
+use Rattle.units.specs.Refusals.{Verdict, refused, Test, first}
 use Rattle.units.proofs.Refusing.{Lowest, ascending, told_lowest}
 use Rattle.field.specs.Field.{◌⊕◌, product, power, α, order}
 use Rattle.field.proofs.Tests.{Passes, formed}
@@ -35,6 +34,7 @@ use Rattle.signature.proofs.Joining.{join_law}
 use Rattle.signature.proofs.Editing.{edit_law}
 use Rattle.signature.proofs.Differing.{none_differs}
 use Rattle.signature.proofs.Detection.{told_apart}
+use Rattle.std.specs.Prelude.{Ok, Err}
 
 -- its symbols are elements, and an object has no more positions than α has powers
 pub record Sound (K : Kind) : Type 0 where
@@ -49,10 +49,10 @@ wide_sound = record { passes = GF16_passes; some = zero-lt-suc 1; fits = le_refl
 -- ---- a number is given exactly when it is the lowest that applies
 
 told_unless : (v : Verdict) (s : Signature) → told (unless v s) ≡ v
-told_unless Verdict.Allowed s = refl
-told_unless (Verdict.Refused r) s = refl
+told_unless (Ok _) s = refl
+told_unless (Err r) s = refl
 
-refused_when : (ts : List Test) → T (ascending ts) → (s : Signature) (r : Refusal) → (told (decided ts s) ≡ Verdict.Refused r) ↔ Lowest ts r
+refused_when : (ts : List Test) → T (ascending ts) → (s : Signature) (r : Refusal) → (told (decided ts s) ≡ refused r) ↔ Lowest ts r
 refused_when ts up s r = told_lowest _ ts (told_unless (first ts) s) up r
 
 -- ---- components above n are zero in every answer
@@ -70,15 +70,15 @@ abbrev pub cleared : Signature → Signature
 cleared s = answered s.n (handed s)
 
 module _ (K : Kind) where
-  pub sign_refused : (n : ℕ) (object : List ℕ) (r : Refusal) → (told (signing K n object) ≡ Verdict.Refused r) ↔ Lowest (sign_tests K n object) r
+  pub sign_refused : (n : ℕ) (object : List ℕ) (r : Refusal) → (told (signing K n object) ≡ refused r) ↔ Lowest (sign_tests K n object) r
   sign_refused n object = refused_when (sign_tests K n object) tt (own K n object)
 
   pub join_refused : (one : Signature) (a : ℕ) (two : Signature) (b : ℕ) (r : Refusal)
-      → (told (joining K one a two b) ≡ Verdict.Refused r) ↔ Lowest (join_tests K one a two b) r
+      → (told (joining K one a two b) ≡ refused r) ↔ Lowest (join_tests K one a two b) r
   join_refused one a two b = refused_when (join_tests K one a two b) tt (answered one.n (joined K.field (handed one) a (handed two)))
 
   pub edit_refused : (s : Signature) (r : ℕ) (old new : List ℕ) (why : Refusal)
-      → (told (editing K s r old new) ≡ Verdict.Refused why) ↔ Lowest (edit_tests K s r old new) why
+      → (told (editing K s r old new) ≡ refused why) ↔ Lowest (edit_tests K s r old new) why
   edit_refused s r old new =
       refused_when (edit_tests K s r old new) tt
       (answered s.n (edited K.field (handed s) r (signature K.field K.size old) (signature K.field K.size new)))

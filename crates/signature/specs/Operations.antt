@@ -1,23 +1,25 @@
 -- What sign, join and edit answer, for every kind of symbol and every input: the refusal of the first test that applies, and else the signature.
-use Rattle.std.specs.Prelude.{ℕ, ◌+◌, ◌%◌, Bool, not, ◌&&◌, List, [], ◌∷◌, leb, eqb, length}
-use Rattle.units.specs.declared.Verdict.{Verdict}
-use Rattle.units.specs.declared.Verdict.TheVariants.{Allowed, Refused}
+use Rattle.std.specs.Prelude.{ℕ, ◌+◌, ◌%◌, Bool, not, ◌&&◌, List, [], ◌∷◌, leb, eqb, length, Result, Ok, Err}
 use Rattle.units.specs.Sizes.{n_allowed}
-use Rattle.units.specs.Refusals.{Test, first, gives, SIZE, LONG, ODD, MATCH}
+use Rattle.units.specs.Refusals.{Verdict, Test, first, gives}
 use Rattle.signature.specs.Kinds.{Kind}
 use Rattle.signature.specs.Objects.{symbols}
 use Rattle.signature.specs.Signatures.{signature, joined, edited, handed, answered}
 use Rattle.signature.specs.declared.Signature.{Signature}
-use Rattle.signature.specs.declared.Answer.{Answer}
+use Rattle.units.specs.declared.Refusal.{Refusal}
+
+-- the signature, or why there is none
+abbrev pub Answer : Type 0
+Answer = Result Signature Refusal
 
 -- what the table says of an answer
 abbrev pub told : Answer → Verdict
-told (Answer.Signed s) = Allowed
-told (Answer.Refused r) = Refused r
+told (Ok s) = Ok tt
+told (Err r) = Err r
 
 abbrev pub unless : Verdict → Signature → Answer
-unless Allowed s = Answer.Signed s
-unless (Refused r) s = Answer.Refused r
+unless (Ok _) s = Ok s
+unless (Err r) s = Err r
 
 -- the refusal of the first test that applies, and else the signature
 abbrev pub decided : List Test → Signature → Answer
@@ -36,7 +38,7 @@ module _ (K : Kind) where
   own n object = answered n (signature K.field K.size object)
 
   abbrev pub sign_tests : ℕ → List ℕ → List Test
-  sign_tests n object = gives SIZE (not (n_allowed n)) ∷ gives LONG (not (allowed (symbols K.size object))) ∷ []
+  sign_tests n object = gives Refusal.Size (not (n_allowed n)) ∷ gives Refusal.Long (not (allowed (symbols K.size object))) ∷ []
 
   abbrev pub signing : ℕ → List ℕ → Answer
   signing n object = decided (sign_tests n object) (own n object)
@@ -44,9 +46,9 @@ module _ (K : Kind) where
   -- the first part has a symbols, the second b
   abbrev pub join_tests : Signature → ℕ → Signature → ℕ → List Test
   join_tests first a second b =
-      gives SIZE (not (n_allowed first.n && n_allowed second.n))
-      ∷ gives LONG (not (allowed (a + b)))
-      ∷ gives MATCH (not (eqb first.n second.n))
+      gives Refusal.Size (not (n_allowed first.n && n_allowed second.n))
+      ∷ gives Refusal.Long (not (allowed (a + b)))
+      ∷ gives Refusal.Match (not (eqb first.n second.n))
       ∷ []
 
   abbrev pub joining : Signature → ℕ → Signature → ℕ → Answer
@@ -55,10 +57,10 @@ module _ (K : Kind) where
   -- from symbol r on, the old bytes are replaced by the new ones
   abbrev pub edit_tests : Signature → ℕ → List ℕ → List ℕ → List Test
   edit_tests s r old new =
-      gives SIZE (not (n_allowed s.n))
-      ∷ gives LONG (not (allowed (r + symbols K.size old)))
-      ∷ gives ODD (not (whole old && whole new))
-      ∷ gives MATCH (not (eqb (length old) (length new)))
+      gives Refusal.Size (not (n_allowed s.n))
+      ∷ gives Refusal.Long (not (allowed (r + symbols K.size old)))
+      ∷ gives Refusal.Odd (not (whole old && whole new))
+      ∷ gives Refusal.Match (not (eqb (length old) (length new)))
       ∷ []
 
   abbrev pub editing : Signature → ℕ → List ℕ → List ℕ → Answer

@@ -14,7 +14,7 @@ ghost use Rattle.signature.specs.Operations.{own as object_own, signing, joining
 use units::{Bytes, Refusal, Symbols};
 
 // n and four components. Those above n are ignored on entry, and zero in every answer.
-#[derive(Clone, Copy)]
+#[derive(Clone, Copy, Debug, PartialEq, Eq, Hash)]
 pub struct Signature {
     pub n: usize,
     pub s1: u16,
@@ -23,70 +23,56 @@ pub struct Signature {
     pub s4: u16,
 }
 
-#[derive(Clone, Copy)]
-pub enum Answer {
-    Signed(Signature),
-    Refused(Refusal),
-}
-
-pub fn sign(n: usize, object: &[u8]) -> Answer
+pub fn sign(n: usize, object: &[u8]) -> Result<Signature, Refusal>
     ensures { result ≡ signing wide n object.now }
 {
     if !units::n_allowed(n) {
-        return refused(Refusal::SIZE);
+        return Err(Refusal::Size);
     }
     if !units::object_allowed(symbols_in(object)) {
-        return refused(Refusal::LONG);
+        return Err(Refusal::Long);
     }
-    Answer::Signed(own(n, object))
+    Ok(own(n, object))
 }
 
 // The first part has a symbols, the second b.
-pub fn join(first: Signature, a: Symbols, second: Signature, b: Symbols) -> Answer
+pub fn join(
+    first: Signature,
+    a: Symbols,
+    second: Signature,
+    b: Symbols,
+) -> Result<Signature, Refusal>
     ensures { result ≡ joining wide first a.count second b.count }
 {
-    if !units::n_allowed(first.n) {
-        return refused(Refusal::SIZE);
-    }
-    if !units::n_allowed(second.n) {
-        return refused(Refusal::SIZE);
+    if !units::n_allowed(first.n) || !units::n_allowed(second.n) {
+        return Err(Refusal::Size);
     }
     if !fits(a, b) {
-        return refused(Refusal::LONG);
+        return Err(Refusal::Long);
     }
     if first.n != second.n {
-        return refused(Refusal::MATCH);
+        return Err(Refusal::Match);
     }
-    Answer::Signed(added_at(first, a, second))
+    Ok(added_at(first, a, second))
 }
 
 // From symbol r on, the old bytes are replaced by the new ones.
-pub fn edit(s: Signature, r: Symbols, old: &[u8], new: &[u8]) -> Answer
+pub fn edit(s: Signature, r: Symbols, old: &[u8], new: &[u8]) -> Result<Signature, Refusal>
     ensures { result ≡ editing wide s r.count old.now new.now }
 {
     if !units::n_allowed(s.n) {
-        return refused(Refusal::SIZE);
+        return Err(Refusal::Size);
     }
     if !fits(r, symbols_in(old)) {
-        return refused(Refusal::LONG);
+        return Err(Refusal::Long);
     }
-    if old.len() % 2 != 0 {
-        return refused(Refusal::ODD);
-    }
-    if new.len() % 2 != 0 {
-        return refused(Refusal::ODD);
+    if old.len() % 2 != 0 || new.len() % 2 != 0 {
+        return Err(Refusal::Odd);
     }
     if old.len() != new.len() {
-        return refused(Refusal::MATCH);
+        return Err(Refusal::Match);
     }
-    Answer::Signed(added_at(s, r, change(s.n, old, new)))
-}
-
-// Every refusal of this crate has the value 0.
-fn refused(number: u32) -> Answer
-    ensures { result ≡ Answer.Refused (record { number = number; value = 0 }) }
-{
-    Answer::Refused(Refusal { number, value: 0 })
+    Ok(added_at(s, r, change(s.n, old, new)))
 }
 
 pub fn symbols_in(object: &[u8]) -> Symbols
@@ -101,10 +87,7 @@ pub fn symbols_in(object: &[u8]) -> Symbols
 fn fits(a: Symbols, b: Symbols) -> bool
     ensures { result ≡ object_allowed (a.count + b.count) }
 {
-    if a.count > units::OBJECT_SYMBOLS_MOST {
-        return false;
-    }
-    b.count <= units::OBJECT_SYMBOLS_MOST - a.count
+    a.count <= units::OBJECT_SYMBOLS_MOST && b.count <= units::OBJECT_SYMBOLS_MOST - a.count
 }
 
 // An object's own signature, of any length. Components above n are not asked for.
@@ -221,18 +204,14 @@ pub fn two_bytes(object: &[u8], at: usize) -> usize
 pub fn byte(object: &[u8], at: Bytes) -> u8
     ensures { result ≡ get_or object.now at.count 0 }
 {
-    let i = at.count;
-    if i < object.len() { object[i] } else { 0 }
+    object.get(at.count).copied().unwrap_or(0)
 }
 
 // A number's two low bytes, low byte first, written over what stood there. Where there is no room for them, all stays as it was.
 pub fn put_two_bytes(x: usize, output: &mut [u8], at: usize)
     ensures { output.new ≡ part_put (low_bytes 2 x) output.old at }
 {
-    if output.len() < 2 {
-        return;
-    }
-    if at > output.len() - 2 {
+    if output.len() < 2 || at > output.len() - 2 {
         return;
     }
     output[at] = (x % 256) as u8;

@@ -7,10 +7,11 @@ use native.Mathlib.Numerals.{add-one}
 use native.Mathlib.Omega.{arith}
 use lib.ListN.{length, set}
 use Rattle.units.specs.Writing.{written}
-use Rattle.units.proofs.Writing.{written_sets, part_put_lem, part_not_put}
+use Rattle.units.proofs.Writing.{written_sets, part_put_lem, part_passed}
 use Rattle.signature.specs.Objects.{low_bytes}
 use Rattle.signature.proofs.Numbers.{low_bytes_length}
 use Rattle.signature.proofs.put_two_bytes.Goals as goal
+use Rattle.signature.proofs.put_two_bytes.Goals.{then-output-lt2-via-then-output-lt2, then-output-lt2-via-else-output-lt2+then-at-output}
 
 both : (old : List ℕ) (at x : ℕ) → at + length (low_bytes 2 x) ≤ length old
     → set (set old at (x % 256)) (at + 1) (x / 256 % 256) ≡ written old at (low_bytes 2 x)
@@ -20,12 +21,10 @@ both old at x fits = ap (λ (i : ℕ). set (set old at (x % 256)) i (x / 256 % 2
 pub returns-then-output-lt2 : goal.returns-then-output-lt2
 returns-then-output-lt2 c =
     let args : _ = c.args in
-    sym (part_not_put (low_bytes 2 args.x) args.output.now args.at (omega (arith, low_bytes_length 2 args.x)))
-
-pub returns-then-at-output : goal.returns-then-at-output
-returns-then-at-output c =
-    let args : _ = c.args in
-    sym (part_not_put (low_bytes 2 args.x) args.output.now args.at (omega (arith, low_bytes_length 2 args.x)))
+    part_passed (low_bytes 2 args.x) args.output.now args.at (elim c.then-output-lt2.branch [
+      | then-output-lt2-via-then-output-lt2 w ↦ omega (arith, w.if-output-lt2.true, low_bytes_length 2 args.x)
+      | then-output-lt2-via-else-output-lt2+then-at-output w ↦ omega (arith, w.if-output-lt2.false, w.if-at-output.true, low_bytes_length 2 args.x)
+    ])
 
 pub returns : goal.returns
 returns c =

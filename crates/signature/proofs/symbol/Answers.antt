@@ -26,7 +26,7 @@ cut_off object i short =
 pub overflow_cast-result : goal.overflow_cast-result
 overflow_cast-result c =
     let object : List ℕ = c.args.object.now in
-    let small : low_first 2 object c.bytes_of.result.count < 65536 = low_first_lt 2 _ _ (λ k. (c.shared_slice_known-1.given k).fits) in
+    let small : low_first 2 object c.bytes_of.result.count < 65536 = low_first_lt 2 _ _ (λ k. (c.type_inv.object k).fits) in
     omega (arith, c.two_bytes.ensures)
 
 pub returns : goal.returns
