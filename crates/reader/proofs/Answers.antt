@@ -6,7 +6,7 @@ use Prim.Native.Nat.{ℕ}
 use denote.Ref.{Bor}
 use Rattle.units.specs.Answers.{OneAnswer}
 use Rattle.reader.specs.Readers.{reader_at, Advanced, advanced_of, advancing}
-use Rattle.reader.specs.declared.Field.{Field}
+use Rattle.reader.specs.Fields.{Field}
 use Rattle.reader.specs.declared.Reader.{Reader}
 use Rattle.reader.proofs.read_field.Reads as ReadField
 

@@ -9,7 +9,7 @@ use lib.Dec.{leb, eqb}
 use lib.ListN.{length, get_or}
 use borrow.Author.Tests.{eqb-true, leb-true, eq-eqb, le-leb}
 use Rattle.signature.specs.Objects.{low_first}
-use Rattle.reader.specs.declared.Field.TheVariants.{Formed}
+use Rattle.std.specs.Prelude.{Some}
 use Rattle.reader.specs.Fields.{Rule, long, none, rule, under_rule, field_at, is_due, behind}
 
 -- tag and length are those due, and the value is all there
@@ -50,7 +50,7 @@ module _ (n tag size : ℕ) (bytes : List ℕ) (at : ℕ) (r : rule n tag ≡ lo
       three true l = ruled (rule n (get_or bytes at 0)) refl (simp l at e)
       three false l = absurd (false≢true (simp l at e))
 
-  due_formed : Due tag size bytes at → field_at n bytes at ≡ Formed (record { tag = tag; value = at + 3; next = at + 3 + size })
+  due_formed : Due tag size bytes at → field_at n bytes at ≡ Some (record { tag = tag; value = at + 3; next = at + 3 + size })
   unfolding field_at
   due_formed d =
       let there : at + 3 ≤ length bytes = omega arith in

@@ -1,10 +1,12 @@
 -- One field of a map: tag, length and value, read by its tag's rule.
-use Rattle.std.specs.Prelude.{Bool, false, cond, List, ℕ, zero, suc, ◌+◌, leb, eqb, length, get_or}
+use Rattle.std.specs.Prelude.{Bool, false, cond, List, ℕ, zero, suc, ◌+◌, leb, eqb, length, get_or, Option, Some, None}
 use Rattle.units.specs.Counts.{bytes_in}
 use Rattle.signature.specs.Objects.{low_first}
-use Rattle.reader.specs.declared.Field.{Field}
-use Rattle.reader.specs.declared.Field.TheVariants.{Formed, Broken}
-use Rattle.reader.specs.declared.Taken.{Taken}
+use Rattle.reader.specs.declared.Tagged.{Tagged}
+
+-- a field that keeps its tag's rule; none where it is broken
+abbrev pub Field : Type 0
+Field = Option Tagged
 
 -- what a tag asks of its field
 pub data Rule : Type 0 where
@@ -24,24 +26,29 @@ rule n (suc (suc (suc (suc (suc tag))))) = none
 
 -- the length is the one due, and the value is not cut off
 abbrev pub under_rule : Rule → List ℕ → ℕ → Field
-under_rule none bytes at = Broken
+under_rule none bytes at = None
 under_rule (long size) bytes at =
     cond (eqb (low_first 2 bytes (at + 1)) size)
-    (cond (leb (at + 3 + size) (length bytes)) (Formed (record { tag = get_or bytes at 0; value = at + 3; next = at + 3 + size })) Broken)
-    Broken
+    (cond (leb (at + 3 + size) (length bytes)) (Some (record { tag = get_or bytes at 0; value = at + 3; next = at + 3 + size })) None)
+    None
 
 -- the field whose tag stands at a place
 unfoldable pub field_at : ℕ → List ℕ → ℕ → Field
-field_at n bytes at = cond (leb (at + 3) (length bytes)) (under_rule (rule n (get_or bytes at 0)) bytes at) Broken
+field_at n bytes at = cond (leb (at + 3) (length bytes)) (under_rule (rule n (get_or bytes at 0)) bytes at) None
 
 abbrev pub is_due : ℕ → Field → Bool
-is_due tag Broken = false
-is_due tag (Formed f) = eqb f.tag tag
+is_due tag None = false
+is_due tag (Some f) = eqb f.tag tag
 
 -- where reading goes on: behind a field, and at one that is broken
 abbrev pub behind : ℕ → Field → ℕ
-behind at Broken = at
-behind at (Formed f) = f.next
+behind at None = at
+behind at (Some f) = f.next
+
+-- a field that was taken off, and the place that reading has come to
+pub record Taken : Type 0 where
+  pub field : Field
+  pub place : ℕ
 
 -- the field at a place, taken off
 abbrev pub taken_at : ℕ → List ℕ → ℕ → Taken

@@ -1,10 +1,8 @@
 -- A reader holds the bytes of a map and its place, and a call takes off one field.
 use Rattle.std.specs.Prelude.{List, ℕ, zero, suc}
 use Rattle.std.specs.Borrow.{Bor}
-use Rattle.reader.specs.Fields.{field_at, behind, taken_at}
-use Rattle.reader.specs.declared.Field.{Field}
+use Rattle.reader.specs.Fields.{Field, field_at, behind, Taken, taken_at}
 use Rattle.reader.specs.declared.Reader.{Reader}
-use Rattle.reader.specs.declared.Taken.{Taken}
 
 -- a reader of these bytes, at a place
 abbrev pub reader_at : Bor (List ℕ) → ℕ → Reader

@@ -2,81 +2,52 @@
 #![tactic(auto)]
 
 ghost use Rattle.std.specs.Prelude.{◌≡◌, ◌+◌, ◌≤◌, length};
-ghost use Rattle.reader.specs.Fields.{field_at, under_rule, long, taken_at};
+ghost use Rattle.reader.specs.Fields.{field_at, under_rule, long};
 ghost use Rattle.reader.specs.Readers.{reader_at, advanced_of, advancing};
 
 use units::Symbols;
 
 // A field that keeps its tag's rule: where its value stands, and where the next field begins.
-#[derive(Clone, Copy)]
+#[derive(Clone, Copy, Debug, PartialEq, Eq, Hash)]
 pub struct Tagged {
     pub tag: u8,
     pub value: usize,
     pub next: usize,
 }
 
-#[derive(Clone, Copy)]
-pub enum Field {
-    Formed(Tagged),
-    Broken,
-}
-
-// A field that was taken off, and the place that reading has come to.
-#[derive(Clone, Copy)]
-struct Taken {
-    field: Field,
-    place: usize,
-}
-
 // The field whose tag stands at a place, in a map of n components.
-fn field_at(n: usize, map: &[u8], at: usize) -> Field
+fn field_at(n: usize, map: &[u8], at: usize) -> Option<Tagged>
     ensures { result ≡ field_at n map.now at }
 {
-    if map.len() < 3 {
-        return Field::Broken;
+    if map.len() < 3 || at > map.len() - 3 {
+        return None;
     }
-    if at > map.len() - 3 {
-        return Field::Broken;
-    }
-    let tag = map[at];
-    match tag {
-        0 => Field::Broken,
+    match map[at] {
+        0 => None,
         1 => under_rule(1, map, at),
         2 | 3 => under_rule(4, map, at),
         4 => under_rule(units::bytes_of(Symbols { count: n }).count, map, at),
-        5..=255 => Field::Broken,
+        5..=255 => None,
     }
 }
 
 // The field by its rule: the length due, and a value that is not cut off.
-fn under_rule(size: usize, map: &[u8], at: usize) -> Field
+fn under_rule(size: usize, map: &[u8], at: usize) -> Option<Tagged>
     requires { at + 3 ≤ length map.now }
     ensures { result ≡ under_rule (long size) map.now at }
 {
     if signature::two_bytes(map, at + 1) != size {
-        return Field::Broken;
+        return None;
     }
     let value = at + 3;
     if size > map.len() - value {
-        return Field::Broken;
+        return None;
     }
-    Field::Formed(Tagged {
+    Some(Tagged {
         tag: map[at],
         value,
         next: value + size,
     })
-}
-
-// The field at a place, and where reading goes on: behind it, or at the field that is broken.
-fn taken_at(n: usize, map: &[u8], at: usize) -> Taken
-    ensures { result ≡ taken_at n map.now at }
-{
-    let field = field_at(n, map, at);
-    let place = match field {
-        Field::Formed(f) => f.next,
-        Field::Broken => at,
-    };
-    Taken { field, place }
 }
 
 // A map's bytes, and the place that reading has come to.
@@ -95,19 +66,18 @@ impl<'a> Reader<'a> {
     }
 
     // The field at the reader's place is taken off, in a map of n components. The reader stays where a field is broken.
-    pub fn next<'s>(&'s mut self, n: usize) -> Field
+    pub fn next<'s>(&'s mut self, n: usize) -> Option<Tagged>
         ensures { advanced_of result self.new ≡ advancing n self.old }
     {
-        let taken = taken_at(n, self.bytes, self.place);
-        self.place = taken.place;
-        taken.field
+        let field = field_at(n, self.bytes, self.place)?;
+        self.place = field.next;
+        Some(field)
     }
 }
 
 // The field at a place, as a reader that begins there takes it off.
-pub fn read_field(n: usize, map: &[u8], at: usize) -> Field
+pub fn read_field(n: usize, map: &[u8], at: usize) -> Option<Tagged>
     ensures { result ≡ field_at n map.now at }
 {
-    let mut reader = Reader::new(map, at);
-    reader.next(n)
+    Reader::new(map, at).next(n)
 }

@@ -6,6 +6,8 @@ use borrow.Author.Tests.{le-leb, lt-leb}
 use Rattle.units.specs.Counts.{bytes_in}
 use Rattle.reader.specs.Fields.{Rule, rule, long, none, under_rule, field_at}
 use Rattle.reader.proofs.field_at.Goals as goal
+use Rattle.reader.proofs.field_at.Goals.{then-map-lt3-via-then-map-lt3, then-map-lt3-via-else-map-lt3+then-at-map}
+use Rattle.std.specs.Prelude.{None}
 
 -- where tag and length are there, the field is what its tag's rule says
 ruled : (n : ℕ) (bytes : List ℕ) (at : ℕ) → at + 3 ≤ length bytes → (r : Rule) → rule n (get_or bytes at 0) ≡ r → field_at n bytes at ≡ under_rule r bytes at
@@ -27,17 +29,16 @@ beyond n (suc (suc (suc zero))) above = absurd (omega arith)
 beyond n (suc (suc (suc (suc zero)))) above = absurd (omega arith)
 beyond n (suc (suc (suc (suc (suc tag))))) above = refl
 
-pub returns-then-map-lt3 : goal.returns-then-map-lt3
+cut_off : (n : ℕ) (bytes : List ℕ) (at : ℕ) → length bytes < at + 3 → None ≡ field_at n bytes at
 unfolding field_at
-returns-then-map-lt3 c =
-    let short : length c.args.map.now < c.args.at + 3 = omega arith in
-    simp (lt-leb _ _ short)
+cut_off n bytes at short = simp (lt-leb (at + 3) (length bytes) short)
 
-pub returns-then-at-map : goal.returns-then-at-map
-unfolding field_at
-returns-then-at-map c =
-    let short : length c.args.map.now < c.args.at + 3 = omega arith in
-    simp (lt-leb _ _ short)
+pub returns-then-map-lt3 : goal.returns-then-map-lt3
+returns-then-map-lt3 c =
+    cut_off _ c.args.map.now _ (elim c.then-map-lt3.branch [
+      | then-map-lt3-via-then-map-lt3 w ↦ omega (arith, w.if-map-lt3.true)
+      | then-map-lt3-via-else-map-lt3+then-at-map w ↦ omega (arith, w.if-map-lt3.false, w.if-at-map.true)
+    ])
 
 pub returns-in-0 : goal.returns-in-0
 returns-in-0 c = sym (ruled _ c.args.map.now _ (omega arith) none (ap (rule c.args.n) c.in-0.is))
