@@ -1,5 +1,6 @@
 -- What a file holds is what it was made from: its header, and each of its entries, are read back.
 -- Assumes nothing.
+use Rattle.std.specs.Prelude.{Ok}
 use mathlib.Core.Path.{◌≡◌, refl, sym, ap, ap₂, ◌∙◌}
 use mathlib.Core.Bool.{true, ◌&&◌}
 use mathlib.Core.List.{List, [], ◌++◌, append_assoc}
@@ -9,8 +10,7 @@ use native.Mathlib.Omega.{arith}
 use lib.ListN.{length, get_or, length-append}
 use Rattle.units.specs.Sizes.{n_allowed, page_allowed, bucket_allowed}
 use Rattle.units.specs.Refusals.{first}
-use Rattle.units.specs.declared.Verdict.{Verdict}
-use Rattle.units.specs.declared.Verdict.TheVariants.{Allowed}
+use Rattle.units.specs.Refusals.{Verdict}
 use Rattle.units.specs.Runs.{end_to_end}
 use Rattle.units.proofs.Runs.{run_at, run_long, run_length}
 use Rattle.signature.specs.Objects.{low_first, low_bytes}
@@ -23,13 +23,13 @@ use Rattle.reader.specs.Fields.{field_at, is_due}
 use Rattle.map.specs.Reading.{header_of, entry_tests, told, reading, entry_at}
 use Rattle.map.specs.declared.Header.{Header}
 use Rattle.map.specs.declared.Entry.{Entry}
-use Rattle.map.specs.declared.Reading.TheVariants.{Holds}
 use Rattle.reader.proofs.Due.{due_is}
 use Rattle.map.proofs.Entries.{entry_kept, end_kept, due_entry}
 use Rattle.map.proofs.Headers.{Kept, kept_header, entries_decide}
 use Rattle.map.proofs.Tagging.{tagged_length, header_length, components_length, entry_length}
 use Rattle.map.proofs.MadeMaps.{n_most, page_most, bucket_most, next_place}
 use Rattle.map.proofs.Placed.{value_read, tag_read, placed_due}
+use Rattle.units.specs.Refusals.{allowed}
 
 -- its sizes are allowed
 pub record Sized (h : Header) : Type 0 where
@@ -220,7 +220,7 @@ module _ (h : Header) (e : ℕ → Entry) (ok : Sized h) (held : (k : ℕ) → k
         (answered_within h.n _ _ component_back ∙ sym (held k inside).cleared)
 
   -- the rules of the entries from page k on
-  kept_from : (m k : ℕ) → k + m ≡ pages h → first (entry_tests h.n (file h e) m (place h.n k)) ≡ Allowed
+  kept_from : (m k : ℕ) → k + m ≡ pages h → first (entry_tests h.n (file h e) m (place h.n k)) ≡ allowed
   kept_from zero k all =
       end_kept h.n (file h e) (place h.n k) (omega (arith, file_length, ap (place h.n) (sym all ∙ add-zero k)))
   kept_from (suc m) k all =
@@ -228,7 +228,7 @@ module _ (h : Header) (e : ℕ → Entry) (ok : Sized h) (held : (k : ℕ) → k
       ∙ ap (λ (at : ℕ). first (entry_tests h.n (file h e) m at)) (sym (next_place h.n k))
       ∙ kept_from m (suc k) (omega arith)
 
-  pub file_read : reading (file h e) ≡ Holds h
+  pub file_read : reading (file h e) ≡ Ok h
   file_read =
       let start : place h.n 0 ≡ 18 = omega arith in
       entries_decide (file h e) (kept_header (file h e) header_kept)

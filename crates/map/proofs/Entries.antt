@@ -9,13 +9,14 @@ use native.Mathlib.Omega.{arith}
 use lib.ListN.{length}
 use borrow.Author.Tests.{lt-leb, le-leb, leb-true, not-false}
 use Rattle.units.specs.Counts.{bytes_in}
-use Rattle.units.specs.Refusals.{first, MAP}
-use Rattle.units.specs.declared.Verdict.TheVariants.{Allowed, Refused}
+use Rattle.units.specs.Refusals.{first}
 use Rattle.units.proofs.Refusing.{Quiet}
 use Rattle.map.specs.Files.{entry_bytes}
 use Rattle.reader.specs.Fields.{long, rule, field_at, is_due}
 use Rattle.map.specs.Reading.{entry_tests}
 use Rattle.reader.proofs.Due.{Due, is_due_lem, due_is}
+use Rattle.units.specs.Refusals.{allowed, refused}
+use Rattle.units.specs.declared.Refusal.{Refusal}
 
 pub entry_rule : (n : ℕ) → n ≤ 4 → rule n 4 ≡ long (2 * n)
 entry_rule n small = let size : bytes_in 2 n ≡ 2 * n = omega arith in ap long size
@@ -27,23 +28,23 @@ module _ (n : ℕ) (bytes : List ℕ) where
   entry_kept m at e = simp e
 
   pub entry_broken : (m at : ℕ) → is_due 4 (field_at n bytes at) ≡ false
-      → first (entry_tests n bytes (suc m) at) ≡ Refused (record { number = MAP; value = at })
+      → first (entry_tests n bytes (suc m) at) ≡ refused (Refusal.Map at)
   unfolding entry_tests
   entry_broken m at e = simp e
 
-  pub end_kept : (at : ℕ) → length bytes ≤ at → first (entry_tests n bytes 0 at) ≡ Allowed
+  pub end_kept : (at : ℕ) → length bytes ≤ at → first (entry_tests n bytes 0 at) ≡ allowed
   unfolding entry_tests
   end_kept at e = simp (le-leb _ _ e)
 
-  pub end_broken : (at : ℕ) → at < length bytes → first (entry_tests n bytes 0 at) ≡ Refused (record { number = MAP; value = at })
+  pub end_broken : (at : ℕ) → at < length bytes → first (entry_tests n bytes 0 at) ≡ refused (Refusal.Map at)
   unfolding entry_tests
   end_broken at e = simp (lt-leb _ _ e)
 
   -- the same, where a loop that counts down has come to its end
-  pub ends_kept : (left at : ℕ) → left ≤ 0 → length bytes ≤ at → first (entry_tests n bytes left at) ≡ Allowed
+  pub ends_kept : (left at : ℕ) → left ≤ 0 → length bytes ≤ at → first (entry_tests n bytes left at) ≡ allowed
   ends_kept left at none e = let is : left ≡ 0 = omega arith in ap (λ (m : ℕ). first (entry_tests n bytes m at)) is ∙ end_kept at e
 
-  pub ends_broken : (left at : ℕ) → left ≤ 0 → at < length bytes → first (entry_tests n bytes left at) ≡ Refused (record { number = MAP; value = at })
+  pub ends_broken : (left at : ℕ) → left ≤ 0 → at < length bytes → first (entry_tests n bytes left at) ≡ refused (Refusal.Map at)
   ends_broken left at none e = let is : left ≡ 0 = omega arith in ap (λ (m : ℕ). first (entry_tests n bytes m at)) is ∙ end_broken at e
 
   pub entry_due : n ≤ 4 → (at : ℕ) → is_due 4 (field_at n bytes at) ≡ true → Due 4 (2 * n) bytes at

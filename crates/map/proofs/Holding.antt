@@ -1,5 +1,6 @@
 -- What is known of a map that reads: its sizes are allowed, and it ends with its last entry.
 -- Assumes nothing.
+use Rattle.std.specs.Prelude.{Ok}
 use mathlib.Core.Path.{◌≡◌, sym, subst}
 use mathlib.Core.Bool.{true}
 use mathlib.Core.List.{List}
@@ -9,7 +10,6 @@ use native.Mathlib.Omega.{arith}
 use lib.ListN.{length}
 use borrow.Author.Tests.{not-false}
 use Rattle.units.specs.Refusals.{first}
-use Rattle.units.specs.declared.Verdict.TheVariants.{Allowed}
 use Rattle.units.proofs.Refusing.{Quiet, allowed_when}
 use Rattle.signature.specs.Objects.{Octets, low_first}
 use Rattle.signature.proofs.Handing.{answered_handed, answered_below}
@@ -18,13 +18,13 @@ use Rattle.map.specs.Files.{pages, place, entry_bytes}
 use Rattle.reader.specs.Fields.{field_at, is_due}
 use Rattle.map.specs.Reading.{header_of, map_tests, reading, entry_at}
 use Rattle.map.specs.declared.Header.{Header}
-use Rattle.map.specs.declared.Reading.TheVariants.{Holds}
 use Rattle.reader.proofs.Due.{Due}
 use Rattle.map.proofs.Fields.{halves, bucket_due}
 use Rattle.map.proofs.Entries.{entry_due, quiet_due, quiet_end}
 use Rattle.map.proofs.Headers.{Kept, told_holds, n_small}
 use Rattle.map.proofs.Contents.{Sized, Held}
 use Rattle.map.proofs.MadeMaps.{n_most}
+use Rattle.units.specs.Refusals.{allowed}
 
 module _ (bytes : List ℕ) (q : Quiet (map_tests bytes)) where
   pub quiet_kept : Kept bytes
@@ -51,8 +51,8 @@ module _ (bytes : List ℕ) (q : Quiet (map_tests bytes)) where
   quiet_length =
       omega (arith, reached (pages (header_of bytes)) (omega arith), quiet_end (header_of bytes).n bytes (pages (header_of bytes)) 18 q.1.1.1)
 
-module _ (bytes : List ℕ) (h : Header) (holds : reading bytes ≡ Holds h) where
-  both : (first (map_tests bytes) ≡ Allowed) × (header_of bytes ≡ h)
+module _ (bytes : List ℕ) (h : Header) (holds : reading bytes ≡ Ok h) where
+  both : (first (map_tests bytes) ≡ allowed) × (header_of bytes ≡ h)
   unfolding reading
   both = told_holds _ _ _ holds
 

@@ -1,5 +1,11 @@
 -- What is promised of maps: reading and making undo each other, a break's place is the first, and no second answer meets a contract.
 -- Assumes nothing.
+use Rattle.units.specs.Refusals.{value}
+use Rattle.units.specs.Refusals.{number}
+use Rattle.units.proofs.Refusing.{refused_one_answer}
+use Rattle.std.specs.Prelude.{Ok}
+use Rattle.map.specs.Reading.{broken}
+use Rattle.std.specs.Prelude.{Ok}
 use mathlib.Core.Path.{◌≡◌, refl, sym, ap, ap₂, ◌∙◌}
 use mathlib.Core.Logic.{◌↔◌}
 use mathlib.Core.Bool.{Bool, true, false, ◌&&◌}
@@ -14,10 +20,9 @@ use Rattle.units.specs.Counts.{pages_in}
 use Rattle.units.specs.Sizes.{page_allowed, bucket_allowed}
 use Rattle.units.specs.Refusals.{first}
 use Rattle.units.specs.Filling.{outcome, told as told_filling}
-use Rattle.units.specs.declared.Filled.{Filled}
-use Rattle.units.specs.declared.Filled.TheVariants.{Written}
+use Rattle.units.specs.Filling.{Filled}
 use Rattle.units.specs.declared.Refusal.{Refusal}
-use Rattle.units.specs.declared.Verdict.{Verdict}
+use Rattle.units.specs.Refusals.{Verdict}
 use Rattle.units.proofs.Refusing.{Given, Lowest, Quiet, exactly_when, allowed_when}
 use Rattle.units.proofs.Filling.{filling_refused, filling_refused_keeps, filling_puts, filling_keeps_after}
 use Rattle.signature.specs.Objects.{Octets}
@@ -31,7 +36,6 @@ use Rattle.reader.specs.Fields.{field_at, is_due}
 use Rattle.map.specs.Reading.{header_of, map_tests, entry_tests, told, reading, entry_at}
 use Rattle.map.specs.Making.{made_entry, made_header, made, needed, make_tests, making}
 use Rattle.map.specs.declared.Header.{Header}
-use Rattle.map.specs.declared.Reading.TheVariants.{Holds, Breaks}
 use Rattle.map.proofs.Entries.{entry_kept, entry_broken, end_broken}
 use Rattle.map.proofs.Headers.{Kept, kept_header, entries_decide, told_breaks, told_holds, map_number}
 use Rattle.map.proofs.MadeMaps.{next_place}
@@ -44,6 +48,7 @@ use Rattle.map.proofs.making.make.Reads as Make
 use Rattle.map.proofs.entry_at.Reads as EntryAt
 use Rattle.map.proofs.making.put_entry.Reads as PutEntry
 use Rattle.map.proofs.making.page_at.Reads as PageAt
+use Rattle.units.specs.Refusals.{allowed, refused, number}
 
 -- ---- no second answer meets a contract, and what is lent ends as one list
 
@@ -71,22 +76,22 @@ page_at_one_answer κs a r s x y p q = p ∙ sym q
 
 -- ---- a map is refused at a place exactly when the first rule that it breaks has that place
 
-pub breaks_when : (bytes : List ℕ) (p : ℕ) → (reading bytes ≡ Breaks p) ↔ Given (map_tests bytes) (record { number = 5; value = p })
+pub breaks_when : (bytes : List ℕ) (p : ℕ) → (reading bytes ≡ broken p) ↔ Given (map_tests bytes) (Refusal.Map p)
 unfolding reading
 breaks_when bytes p = (
   λ e.
-      let b : (r : Refusal) × ((first (map_tests bytes) ≡ Verdict.Refused r) × (r.value ≡ p)) = told_breaks _ _ _ e in
-      let number : b.0.number ≡ 5 = map_number bytes b.0 b.1.0 in
-      (exactly_when (map_tests bytes) (record { number = 5; value = p })).0
-      (b.1.0 ∙ ap₂ {C = Verdict} (λ (i v : ℕ). Verdict.Refused (record { number = i; value = v })) number b.1.1),
-  λ g. ap (λ (v : Verdict). told v (header_of bytes)) ((exactly_when (map_tests bytes) (record { number = 5; value = p })).1 g),
+      let b : (r : Refusal) × ((first (map_tests bytes) ≡ refused r) × (value r ≡ p)) = told_breaks _ _ _ e in
+      let is_map : number b.0 ≡ 5 = map_number bytes b.0 b.1.0 in
+      (exactly_when (map_tests bytes) (Refusal.Map p)).0
+      (b.1.0 ∙ ap refused (refused_one_answer b.0 (Refusal.Map p) is_map b.1.1)),
+  λ g. ap (λ (v : Verdict). told v (header_of bytes)) ((exactly_when (map_tests bytes) (Refusal.Map p)).1 g),
 )
 
-pub holds_when : (bytes : List ℕ) (h : Header) → (reading bytes ≡ Holds h) ↔ (Quiet (map_tests bytes) × (header_of bytes ≡ h))
+pub holds_when : (bytes : List ℕ) (h : Header) → (reading bytes ≡ Ok h) ↔ (Quiet (map_tests bytes) × (header_of bytes ≡ h))
 unfolding reading
 holds_when bytes h = (
   λ e.
-      let both : (first (map_tests bytes) ≡ Verdict.Allowed) × (header_of bytes ≡ h) = told_holds _ _ _ e in ((allowed_when (map_tests bytes)).0 both.0, both.1),
+      let both : (first (map_tests bytes) ≡ allowed) × (header_of bytes ≡ h) = told_holds _ _ _ e in ((allowed_when (map_tests bytes)).0 both.0, both.1),
   λ q. ap₂ told ((allowed_when (map_tests bytes)).1 q.0) q.1,
 )
 
@@ -111,14 +116,14 @@ module _ (bytes : List ℕ) (kept : Kept bytes) where
       ∙ ap (λ (at : ℕ). first (entry_tests (header_of bytes).n bytes m at)) (sym (next_place (header_of bytes).n k)))
 
   pub entry_breaks : (k : ℕ) → k < pages (header_of bytes) → DueBefore bytes k
-      → is_due 4 (field_at (header_of bytes).n bytes (place (header_of bytes).n k)) ≡ false → reading bytes ≡ Breaks (place (header_of bytes).n k)
+      → is_due 4 (field_at (header_of bytes).n bytes (place (header_of bytes).n k)) ≡ false → reading bytes ≡ broken (place (header_of bytes).n k)
   entry_breaks k inside due here =
       let m : ℕ = pages (header_of bytes) - suc k in
       from_page k (suc m) due (omega arith)
       ∙ ap (λ (v : Verdict). told v (header_of bytes)) (entry_broken (header_of bytes).n bytes m (place (header_of bytes).n k) here)
 
   pub left_over_breaks : DueBefore bytes (pages (header_of bytes)) → place (header_of bytes).n (pages (header_of bytes)) < length bytes
-      → reading bytes ≡ Breaks (place (header_of bytes).n (pages (header_of bytes)))
+      → reading bytes ≡ broken (place (header_of bytes).n (pages (header_of bytes)))
   left_over_breaks due more =
       from_page (pages (header_of bytes)) 0 due (add-zero (pages (header_of bytes)))
       ∙ ap (λ (v : Verdict). told v (header_of bytes)) (end_broken (header_of bytes).n bytes (place (header_of bytes).n (pages (header_of bytes))) more)
@@ -135,16 +140,16 @@ made_held n page bucket octets k =
     }
 
 module _ (n page : ℕ) (bucket output : List ℕ) where
-  pub make_refused : (r : Refusal) → (told_filling (making n page bucket output).answer ≡ Verdict.Refused r) ↔ Lowest (make_tests n page bucket output) r
+  pub make_refused : (r : Refusal) → (told_filling (making n page bucket output).answer ≡ refused r) ↔ Lowest (make_tests n page bucket output) r
   unfolding making
   make_refused = filling_refused (needed n page bucket) (made n page bucket) output (make_tests n page bucket output) tt
 
-  pub make_refused_keeps : (r : Refusal) → told_filling (making n page bucket output).answer ≡ Verdict.Refused r → (making n page bucket output).output ≡ output
+  pub make_refused_keeps : (r : Refusal) → told_filling (making n page bucket output).answer ≡ refused r → (making n page bucket output).output ≡ output
   unfolding making
   make_refused_keeps = filling_refused_keeps (needed n page bucket) (made n page bucket) output (make_tests n page bucket output)
 
   module _ (octets : Octets bucket) (fits : Sized (made_header n page bucket)) where
-    pub made_reads : reading (made n page bucket) ≡ Holds (made_header n page bucket)
+    pub made_reads : reading (made n page bucket) ≡ Ok (made_header n page bucket)
     unfolding made
     made_reads = file_read (made_header n page bucket) (made_entry n page bucket) fits (λ k inside. made_held n page bucket octets k)
 
@@ -158,10 +163,10 @@ module _ (n page : ℕ) (bucket output : List ℕ) where
 
     -- with room enough the map stands at the output's start, and the bytes after it are as they were
     module _ (enough : needed n page bucket ≤ length output) where
-      make_allowed : first (make_tests n page bucket output) ≡ Verdict.Allowed
+      make_allowed : first (make_tests n page bucket output) ≡ allowed
       make_allowed = simp (fits.n_fits, fits.page_fits, fits.bucket_fits, le-ltb (length output) (needed n page bucket) enough)
 
-      pub make_answers : (making n page bucket output).answer ≡ Written (record { count = needed n page bucket })
+      pub make_answers : (making n page bucket output).answer ≡ Ok (record { count = needed n page bucket })
       unfolding making
       make_answers = ap (λ (v : Verdict). (outcome v (needed n page bucket) (made n page bucket) output).answer) make_allowed
 

@@ -1,5 +1,6 @@
 -- A reader that begins at the start of a map that reads comes to each of its entries in turn, and with the last one to the end.
 -- Assumes nothing.
+use Rattle.std.specs.Prelude.{Ok}
 use mathlib.Core.Path.{◌≡◌, refl, sym, ap, ◌∙◌}
 use mathlib.Core.List.{List}
 use Prim.Native.Nat.{ℕ, zero, suc, ◌+◌, ◌*◌, ◌≤◌}
@@ -11,13 +12,12 @@ use Rattle.reader.proofs.Due.{behind_due}
 use Rattle.map.specs.Files.{pages, place, entry_bytes}
 use Rattle.map.specs.Reading.{reading}
 use Rattle.map.specs.declared.Header.{Header}
-use Rattle.map.specs.declared.Reading.TheVariants.{Holds}
 use Rattle.map.proofs.Entries.{entry_rule}
 use Rattle.map.proofs.Fields.{n_due, page_due, bucket_due}
 use Rattle.map.proofs.Holding.{holds_kept, holds_sized, holds_due, holds_length}
 use Rattle.map.proofs.MadeMaps.{n_most}
 
-module _ (bytes : List ℕ) (h : Header) (holds : reading bytes ≡ Holds h) where
+module _ (bytes : List ℕ) (h : Header) (holds : reading bytes ≡ Ok h) where
   -- from an entry on, m entries further
   reader_on : (m k : ℕ) → k + m ≤ pages h → comes_to h.n bytes m (place h.n k) ≡ place h.n (k + m)
   unfolding comes_to

@@ -1,5 +1,6 @@
 -- A file that reads is the file made from what was read: one file for one meaning.
 -- Assumes nothing.
+use Rattle.std.specs.Prelude.{Ok}
 use mathlib.Core.Path.{◌≡◌, sym, ap, ap₂, ◌∙◌}
 use mathlib.Core.Bool.{true}
 use mathlib.Core.List.{List, ◌++◌}
@@ -10,7 +11,6 @@ use lib.ListN.{length, take, drop, take-append-drop, length-drop}
 use lib.Seq.{take-add, take_all, drop-drop}
 use borrow.Author.Tests.{le-leb}
 use Rattle.units.specs.Refusals.{first}
-use Rattle.units.specs.declared.Verdict.TheVariants.{Allowed}
 use Rattle.units.proofs.Refusing.{Quiet, allowed_when}
 use Rattle.units.proofs.Runs.{run_same, run_back}
 use Rattle.signature.specs.Objects.{Octets, low_first, low_bytes}
@@ -21,13 +21,13 @@ use Rattle.map.specs.Files.{pages, tagged, header, components, entry, file, entr
 use Rattle.reader.specs.Fields.{field_at, is_due}
 use Rattle.map.specs.Reading.{header_of, map_tests, reading, entry_at}
 use Rattle.map.specs.declared.Header.{Header}
-use Rattle.map.specs.declared.Reading.TheVariants.{Holds}
 use Rattle.reader.proofs.Due.{Due}
 use Rattle.map.proofs.Fields.{n_due, page_due, bucket_due}
 use Rattle.map.proofs.Entries.{entry_due, quiet_due, quiet_end}
 use Rattle.map.proofs.Headers.{Kept, told_holds, n_small}
 use Rattle.map.proofs.Holding.{quiet_kept}
 use Rattle.map.proofs.Back.{tagged_back}
+use Rattle.units.specs.Refusals.{allowed}
 
 module _ (bytes : List ℕ) (octets : Octets bytes) where
   -- components, as they stand in the file
@@ -86,8 +86,8 @@ module _ (bytes : List ℕ) (octets : Octets bytes) where
         (run_back (λ k. entry (entry_at n bytes k)) (entry_bytes n) bytes (pages h) 0 18 read ∙ take_all (pages h * entry_bytes n) (drop 18 bytes) rest)
         ∙ take-append-drop 18 bytes
 
-  pub file_of_reading : (h : Header) → reading bytes ≡ Holds h → file h (entry_at h.n bytes) ≡ bytes
+  pub file_of_reading : (h : Header) → reading bytes ≡ Ok h → file h (entry_at h.n bytes) ≡ bytes
   unfolding reading
   file_of_reading h holds =
-      let both : (first (map_tests bytes) ≡ Allowed) × (header_of bytes ≡ h) = told_holds _ _ _ holds in
+      let both : (first (map_tests bytes) ≡ allowed) × (header_of bytes ≡ h) = told_holds _ _ _ holds in
       ap (λ (g : Header). file g (entry_at g.n bytes)) (sym both.1) ∙ whole ((allowed_when (map_tests bytes)).0 both.0)

@@ -2,7 +2,7 @@
 use Rattle.std.specs.Prelude.{ℕ, not, List, [], ◌∷◌, length}
 use Rattle.units.specs.Counts.{pages_in}
 use Rattle.units.specs.Sizes.{n_allowed, page_allowed, bucket_allowed}
-use Rattle.units.specs.Refusals.{Test, gives, SIZE, PAGE, LONG}
+use Rattle.units.specs.Refusals.{Test, gives}
 use Rattle.units.specs.Filling.{Outcome, filling, room}
 use Rattle.signature.specs.Kinds.{wide}
 use Rattle.signature.specs.Operations.{own}
@@ -10,6 +10,7 @@ use Rattle.map.specs.Buckets.{page_at}
 use Rattle.map.specs.Files.{file, file_bytes}
 use Rattle.map.specs.declared.Header.{Header}
 use Rattle.map.specs.declared.Entry.{Entry}
+use Rattle.units.specs.declared.Refusal.{Refusal}
 
 -- the entry of page k: tag 04 and the page's own signature
 unfoldable pub made_entry : ℕ → ℕ → List ℕ → ℕ → Entry
@@ -27,9 +28,9 @@ needed n page bucket = file_bytes n (pages_in page (length bucket))
 
 abbrev pub make_tests : ℕ → ℕ → List ℕ → List ℕ → List Test
 make_tests n page bucket output =
-    gives SIZE (not (n_allowed n))
-    ∷ gives PAGE (not (page_allowed page))
-    ∷ gives LONG (not (bucket_allowed (length bucket) (pages_in page (length bucket))))
+    gives Refusal.Size (not (n_allowed n))
+    ∷ gives Refusal.Page (not (page_allowed page))
+    ∷ gives Refusal.Long (not (bucket_allowed (length bucket) (pages_in page (length bucket))))
     ∷ room (needed n page bucket) output
     ∷ []
 

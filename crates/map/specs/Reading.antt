@@ -1,17 +1,15 @@
 -- Reading a map: the rules of a whole map in the order of the file. The first that is broken gives its place.
-use Rattle.std.specs.Prelude.{ℕ, zero, suc, ◌+◌, ◌*◌, Bool, not, ◌&&◌, List, [], ◌∷◌, ◌++◌, leb, length, get_or}
+use Rattle.std.specs.Prelude.{ℕ, zero, suc, ◌+◌, ◌*◌, Bool, not, ◌&&◌, List, [], ◌∷◌, ◌++◌, leb, length, get_or, Result, Ok, Err}
 use Rattle.units.specs.Sizes.{n_allowed, page_allowed, bucket_allowed}
-use Rattle.units.specs.Refusals.{Test, first, MAP}
-use Rattle.units.specs.declared.Verdict.{Verdict}
-use Rattle.units.specs.declared.Verdict.TheVariants.{Allowed, Refused}
+use Rattle.units.specs.Refusals.{Verdict, value, Test, gives, first}
+use Rattle.units.specs.declared.Refusal.{Refusal}
 use Rattle.signature.specs.Objects.{low_first}
 use Rattle.signature.specs.Signatures.{answered}
 use Rattle.reader.specs.Fields.{field_at, is_due}
 use Rattle.map.specs.Files.{pages, place, entry_bytes, header_bytes}
 use Rattle.map.specs.declared.Header.{Header}
 use Rattle.map.specs.declared.Entry.{Entry}
-use Rattle.map.specs.declared.Reading.{Reading}
-use Rattle.map.specs.declared.Reading.TheVariants.{Holds, Breaks}
+use Rattle.map.specs.declared.Break.{Break}
 
 -- what stands in the places of the three values
 unfoldable pub header_of : List ℕ → Header
@@ -20,7 +18,7 @@ header_of bytes =
 
 -- a rule of the map: if it is not kept, the map breaks at this place
 abbrev pub breaks_at : ℕ → Bool → Test
-breaks_at place holds = record { applies = not holds; refusal = record { number = MAP; value = place } }
+breaks_at place holds = gives (Refusal.Map place) (not holds)
 
 abbrev pub n_keeps_rule : List ℕ → Bool
 n_keeps_rule bytes = is_due 1 (field_at 0 bytes 0) && n_allowed (header_of bytes).n
@@ -42,9 +40,16 @@ entry_tests n bytes (suc m) at = breaks_at at (is_due 4 (field_at n bytes at)) �
 abbrev pub map_tests : List ℕ → List Test
 map_tests bytes = header_tests bytes ++ entry_tests (header_of bytes).n bytes (pages (header_of bytes)) header_bytes
 
+-- what the header holds, or the place of the first break
+abbrev pub Reading : Type 0
+Reading = Result Header Break
+
+abbrev pub broken : ℕ → Reading
+broken place = Err (record { place = place })
+
 abbrev pub told : Verdict → Header → Reading
-told Allowed h = Holds h
-told (Refused r) h = Breaks r.value
+told (Ok _) h = Ok h
+told (Err r) h = broken (value r)
 
 -- the place of the first break, or what the header holds
 unfoldable pub reading : List ℕ → Reading

@@ -5,6 +5,7 @@ mod making;
 
 ghost use Rattle.std.specs.Prelude.{◌≡◌, ◌&&◌, ◌+◌, ◌*◌, ◌^◌, ◌≤◌, ◌<◌, min, length};
 ghost use Rattle.units.specs.Refusals.{first};
+ghost use Rattle.units.specs.declared.Refusal.TheVariants.{Map};
 ghost use Rattle.signature.specs.Objects.{low_first};
 ghost use Rattle.signature.specs.Signatures.{up_to};
 ghost use Rattle.map.specs.Files.{pages as header_pages, place as file_place};
@@ -12,14 +13,15 @@ ghost use Rattle.reader.specs.Fields.{field_at, is_due};
 ghost use Rattle.map.specs.Reading.{header_of, header_tests, entry_tests, told, reading, entry_at};
 
 pub use making::{component, make, page_at, put_entry};
-use reader::Field;
 use signature::Signature;
-use units::Bytes;
+use std::error::Error;
+use std::fmt;
+use units::{Bytes, Refusal};
 
 // The three fields before the first entry.
 pub const HEADER_BYTES: usize = 18;
 
-#[derive(Clone, Copy)]
+#[derive(Clone, Copy, Debug, PartialEq, Eq, Hash)]
 pub struct Header {
     pub n: usize,
     pub page: Bytes,
@@ -27,17 +29,33 @@ pub struct Header {
 }
 
 // One page's field: its tag, and the page's components.
-#[derive(Clone, Copy)]
+#[derive(Clone, Copy, Debug, PartialEq, Eq, Hash)]
 pub struct Entry {
     pub tag: u8,
     pub signature: Signature,
 }
 
-#[derive(Clone, Copy)]
-pub enum Reading {
-    Holds(Header),
-    // the place of the first break
-    Breaks(usize),
+// Where a map first breaks a rule.
+#[derive(Clone, Copy, Debug, PartialEq, Eq, Hash)]
+pub struct Break {
+    pub place: usize,
+}
+
+impl fmt::Display for Break {
+    fn fmt<W: fmt::Write>(&self, f: &mut fmt::Formatter<W>) -> fmt::Result {
+        let place = self.place;
+        write!(f, "map refused at {place}")
+    }
+}
+
+impl Error for Break {}
+
+impl From<Break> for Refusal {
+    ghost from_gives = { λ b r. r ≡ Map b.place };
+
+    fn from(b: Break) -> Refusal {
+        Refusal::Map(b.place)
+    }
 }
 
 // Past the map's end there are zeros.
@@ -52,20 +70,14 @@ fn four_bytes(map: &[u8], at: usize) -> usize
 fn due(tag: u8, n: usize, map: &[u8], at: usize) -> bool
     ensures { result ≡ is_due tag (field_at n map.now at) }
 {
-    let Field::Formed(f) = reader::read_field(n, map, at) else {
-        return false;
-    };
-    f.tag == tag
+    reader::read_field(n, map, at).is_some_and(|field| field.tag == tag)
 }
 
 // Whether that is so, and the field's value is allowed.
 fn keeps_rule(tag: u8, map: &[u8], at: usize, allowed: bool) -> bool
     ensures { result ≡ (is_due tag (field_at 0 map.now at) && allowed) }
 {
-    if !due(tag, 0, map, at) {
-        return false;
-    }
-    allowed
+    due(tag, 0, map, at) && allowed
 }
 
 // What stands in the places of the header's three values.
@@ -89,25 +101,25 @@ pub fn pages(h: Header) -> usize
     units::pages_of(h.page, h.bucket)
 }
 
-fn read_header(map: &[u8]) -> Reading
+fn read_header(map: &[u8]) -> Result<Header, Break>
     ensures { result ≡ told (first (header_tests map.now)) (header_of map.now) }
 {
     let h = header_of(map);
     if !keeps_rule(1, map, 0, units::n_allowed(h.n)) {
-        return Reading::Breaks(0);
+        return Err(Break { place: 0 });
     }
     if !keeps_rule(2, map, 4, units::page_allowed(h.page)) {
-        return Reading::Breaks(4);
+        return Err(Break { place: 4 });
     }
     if !keeps_rule(3, map, 11, units::bucket_allowed(h.bucket, pages(h))) {
-        return Reading::Breaks(11);
+        return Err(Break { place: 11 });
     }
-    Reading::Holds(h)
+    Ok(h)
 }
 
 // One entry a page, and nothing after the last.
 #[tactic(auto, using(crate::proofs::Entries::ends_kept, crate::proofs::Entries::ends_broken))]
-fn read_entries(h: Header, map: &[u8]) -> Reading
+fn read_entries(h: Header, map: &[u8]) -> Result<Header, Break>
     requires { h.n ≤ 4 }
     ensures { result ≡ told (first (entry_tests h.n map.now (header_pages h) 18)) h }
 {
@@ -117,26 +129,24 @@ fn read_entries(h: Header, map: &[u8]) -> Reading
     let mut at = HEADER_BYTES;
     while left > 0 {
         if !due(4, n, map, at) {
-            return Reading::Breaks(at);
+            return Err(Break { place: at });
         }
         at += size;
         left -= 1;
     }
     if at < map.len() {
-        return Reading::Breaks(at);
+        return Err(Break { place: at });
     }
-    Reading::Holds(h)
+    Ok(h)
 }
 
 // The whole map: the place of its first break, or what its header holds.
-pub fn read(map: &[u8]) -> Reading
+#[tactic(auto, using(crate::proofs::Headers::read_broken, crate::proofs::Headers::read_on))]
+pub fn read(map: &[u8]) -> Result<Header, Break>
     ensures { result ≡ reading map.now }
 {
-    let start = read_header(map);
-    match start {
-        Reading::Breaks(at) => Reading::Breaks(at),
-        Reading::Holds(h) => read_entries(h, map),
-    }
+    let h = read_header(map)?;
+    read_entries(h, map)
 }
 
 // The entry of page k, in a map of n components. Past the map's end there are zeros.

@@ -11,7 +11,7 @@ ghost use Rattle.map.specs.Making.{made_entry, making};
 
 use crate::{Entry, HEADER_BYTES, Header, pages, place_within};
 use signature::Signature;
-use units::{Bytes, Filled, Refusal};
+use units::{Bytes, Refusal};
 
 // Page k of a bucket. Past the bucket's end it is empty.
 pub fn page_at<'a>(page: Bytes, bucket: &'a [u8], k: usize) -> &'a [u8]
@@ -135,25 +135,25 @@ fn put_entries(h: Header, bucket: &[u8], output: &mut [u8])
 }
 
 // The map of a bucket, written to the start of the output.
-pub fn make(n: usize, page: Bytes, bucket: &[u8], output: &mut [u8]) -> Filled
+pub fn make(n: usize, page: Bytes, bucket: &[u8], output: &mut [u8]) -> Result<Bytes, Refusal>
     ensures { outcome_of result output.new ≡ making n page.count bucket.now output.old }
 {
     if !units::n_allowed(n) {
-        return units::refused(Refusal::SIZE, 0);
+        return Err(Refusal::Size);
     }
     if !units::page_allowed(page) {
-        return units::refused(Refusal::PAGE, 0);
+        return Err(Refusal::Page);
     }
     let all = Bytes {
         count: bucket.len(),
     };
     let count = units::pages_of(page, all);
     if !units::bucket_allowed(all, count) {
-        return units::refused(Refusal::LONG, 0);
+        return Err(Refusal::Long);
     }
     let needed = HEADER_BYTES + count * (3 + 2 * n);
     if output.len() < needed {
-        return units::refused(Refusal::ROOM, needed);
+        return Err(Refusal::Room(needed));
     }
     let h = Header {
         n,
@@ -162,5 +162,5 @@ pub fn make(n: usize, page: Bytes, bucket: &[u8], output: &mut [u8]) -> Filled
     };
     put_header(h, output);
     put_entries(h, bucket, output);
-    Filled::Written(Bytes { count: needed })
+    Ok(Bytes { count: needed })
 }

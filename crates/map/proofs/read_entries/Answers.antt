@@ -5,7 +5,7 @@ use mathlib.Core.Bool.{true, false}
 use Prim.Native.Nat.{ℕ, suc, ◌-◌, ◌*◌}
 use native.Mathlib.Omega.{arith}
 use Rattle.units.specs.Refusals.{first}
-use Rattle.units.specs.declared.Verdict.{Verdict}
+use Rattle.units.specs.Refusals.{Verdict}
 use Rattle.reader.specs.Fields.{field_at, is_due}
 use Rattle.map.specs.Reading.{entry_tests, told}
 use Rattle.map.proofs.Entries.{entry_kept, entry_broken, entry_due}

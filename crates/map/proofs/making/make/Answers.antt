@@ -1,5 +1,6 @@
 -- `map::making::make` meets its contract: each return is the definition at the tests that led there; header and entries are the file.
 -- Assumes nothing.
+use Rattle.std.specs.Prelude.{Ok, Err}
 use mathlib.Core.Path.{◌≡◌, sym, ap, ap₂, ◌∙◌}
 use mathlib.Core.Bool.{Bool, true, false}
 use mathlib.Core.List.{List}
@@ -11,13 +12,13 @@ use Rattle.units.specs.Filling.{outcome_of}
 use Rattle.units.specs.Writing.{written}
 use Rattle.units.specs.Sizes.{n_allowed, page_allowed, bucket_allowed}
 use Rattle.units.specs.Counts.{pages_in}
-use Rattle.units.specs.declared.Filled.TheVariants.{Written, Refused}
-use Rattle.units.specs.declared.Filled.{Filled}
 use Rattle.map.specs.Making.{making, needed, made, made_header, made_entry}
 use Rattle.map.specs.Files.{place, entries}
 use Rattle.map.proofs.MadeMaps.{file_written}
 use Rattle.map.proofs.Contents.{Sized}
 use Rattle.map.proofs.making.make.Goals as goal
+use Rattle.std.specs.Prelude.{Err}
+use Rattle.units.specs.declared.Refusal.{Refusal}
 
 -- no size test applies
 sized_at : (bucket : List ℕ) {n page count : ℕ} {n_ok page_ok bucket_ok : Bool} → n_ok ≡ n_allowed n → n_ok ≡ true → page_ok ≡ page_allowed page → page_ok ≡ true
@@ -34,7 +35,7 @@ unfolding making
 returns-then-not-n_allowed c =
     let args : _ = c.args in
     let size : n_allowed args.n ≡ false = sym c.n_allowed.ensures ∙ c.if-not-n_allowed.true in
-    simp size (ap (λ (a : Filled). outcome_of a args.output.now) c.refused.ensures)
+    simp size
 
 pub returns-then-not-page_allowed : goal.returns-then-not-page_allowed
 unfolding making
@@ -42,7 +43,7 @@ returns-then-not-page_allowed c =
     let args : _ = c.args in
     let size : n_allowed args.n ≡ true = sym c.n_allowed.ensures ∙ c.if-not-n_allowed.false in
     let page : page_allowed args.page.count ≡ false = sym c.page_allowed.ensures ∙ c.if-not-page_allowed.true in
-    simp (size, page) (ap (λ (a : Filled). outcome_of a args.output.now) c.refused-then-not-page_allowed.ensures)
+    simp (size, page)
 
 pub returns-then-not-bucket_allowed : goal.returns-then-not-bucket_allowed
 unfolding making
@@ -58,7 +59,7 @@ returns-then-not-bucket_allowed c =
     let page : page_allowed args.page.count ≡ true = sym page-allowed.ensures ∙ if2.false in
     let long : bucket_allowed (length args.bucket.now) (pages_in args.page.count (length args.bucket.now)) ≡ false =
     ap (bucket_allowed (length args.bucket.now)) (sym pages-of.ensures) ∙ sym bucket-allowed.ensures ∙ c.if-not-bucket_allowed.true in
-    simp (size, page, long) (ap (λ (a : Filled). outcome_of a args.output.now) c.refused-then-not-bucket_allowed.ensures)
+    simp (size, page, long)
 
 pub returns-then-output-needed : goal.returns-then-output-needed
 unfolding making
@@ -69,7 +70,7 @@ returns-then-output-needed c =
     let size : place args.n pages-of.result ≡ needed args.n args.page.count args.bucket.now = ap (place args.n) pages-of.ensures in
     let short : length args.output.now < needed args.n args.page.count args.bucket.now = omega arith in
     simp (fits.n_fits, fits.page_fits, fits.bucket_fits, lt-ltb _ _ short)
-    (ap (λ (a : Filled). outcome_of a args.output.now) (c.refused-then-output-needed.ensures ∙ ap (λ (k : ℕ). Refused (record { number = 7; value = k })) size))
+    (ap (λ (k : ℕ). outcome_of (Err (Refusal.Room k)) args.output.now) size)
 
 pub returns : goal.returns
 unfolding making
@@ -88,4 +89,4 @@ returns c =
     put-header.ensures
     ∙ file_written args.n args.page.count args.bucket.now args.output.now enough in
     simp (fits.n_fits, fits.page_fits, fits.bucket_fits, le-ltb _ _ enough)
-    (ap₂ (λ (k : ℕ) (l : List ℕ). outcome_of (Written (record { count = k })) l) size all)
+    (ap₂ (λ (k : ℕ) (l : List ℕ). outcome_of (Ok (record { count = k })) l) size all)
