@@ -1,7 +1,8 @@
 -- Two signatures that are the same component by component are one signature; and what it takes to say that a page agrees with its entry.
 -- Assumes nothing.
 use mathlib.Core.Path.{◌≡◌, refl, sym, ap, ap₂, ◌∙◌}
-use mathlib.Core.Bool.{Bool, true, ◌&&◌}
+use mathlib.Core.Bool.{Bool, true, false, ◌&&◌}
+use Rattle.std.specs.Prelude.{nat_eq}
 use mathlib.Core.List.{List}
 use Prim.Native.Nat.{ℕ}
 use lib.Dec.{eqb}
@@ -17,6 +18,19 @@ use Rattle.backup.specs.Backups.{same, agrees}
 
 pub four_of_five : (a b c d e : Bool) → a ≡ true → b ≡ true → c ≡ true → d ≡ true → (a && b && c && d && e) ≡ e
 four_of_five a b c d e p q r s = simp (p, q, r, s)
+
+regrouped : (a b c d e : Bool) → (a && (b && (c && (d && e)))) ≡ (a && b && c && d && e)
+regrouped false b c d e = refl
+regrouped true false c d e = refl
+regrouped true true false d e = refl
+regrouped true true true false e = refl
+regrouped true true true true e = refl
+
+-- as the derived comparison of two signatures says it
+pub same_by_parts : (a b : Signature)
+    → (nat_eq a.n b.n && (nat_eq a.s1 b.s1 && (nat_eq a.s2 b.s2 && (nat_eq a.s3 b.s3 && nat_eq a.s4 b.s4)))) ≡ same a b
+unfolding same
+same_by_parts a b = regrouped (eqb a.n b.n) (eqb a.s1 b.s1) (eqb a.s2 b.s2) (eqb a.s3 b.s3) (eqb a.s4 b.s4)
 
 pub same_is : (a b : Signature) → same a b ≡ true → a ≡ b
 unfolding same

@@ -1,65 +1,29 @@
 // A bucket's backup, image and map, as every store and load meets it: whether the two may be used, and whether two signatures are the same.
 #![tactic(auto)]
 
-ghost use Rattle.std.specs.Prelude.{◌≡◌, [], ◌∷◌};
-ghost use Rattle.backup.specs.Openings.{opening, match_test, opened};
+ghost use Rattle.std.specs.Prelude.{◌≡◌};
+ghost use Rattle.backup.specs.Openings.{opening};
 ghost use Rattle.backup.specs.Backups.{same as backup_same};
-ghost use Rattle.units.specs.Refusals.{first};
 
-use map::{Header, Reading};
+use map::Header;
 use signature::Signature;
 use units::{Bytes, Refusal};
 
-#[derive(Clone, Copy)]
-pub enum Opening {
-    Open(Header),
-    Refused(Refusal),
-}
-
 // The map is read, and two buckets are held against its bucket bytes.
-pub fn open(one: Bytes, other: Bytes, map: &[u8]) -> Opening
+#[tactic(auto, using(crate::proofs::Opened::one_unmatched, crate::proofs::Opened::other_unmatched, crate::proofs::Opened::both_matched))]
+pub fn open(one: Bytes, other: Bytes, map: &[u8]) -> Result<Header, Refusal>
     ensures { result ≡ opening one.count other.count map.now }
 {
-    let reading = map::read(map);
-    match reading {
-        Reading::Breaks(place) => Opening::Refused(Refusal {
-            number: Refusal::MAP,
-            value: place,
-        }),
-        Reading::Holds(h) => matched(h, one, other),
+    let h = map::read(map)?;
+    if one.count != h.bucket.count || other.count != h.bucket.count {
+        return Err(Refusal::Match);
     }
+    Ok(h)
 }
 
-fn matched(h: Header, one: Bytes, other: Bytes) -> Opening
-    ensures { result ≡ opened (first (match_test one.count other.count h ∷ [])) h }
-{
-    let unmatched = Refusal {
-        number: Refusal::MATCH,
-        value: 0,
-    };
-    if one.count != h.bucket.count {
-        return Opening::Refused(unmatched);
-    }
-    if other.count != h.bucket.count {
-        return Opening::Refused(unmatched);
-    }
-    Opening::Open(h)
-}
-
+#[tactic(auto, using(crate::proofs::Sameness::same_by_parts))]
 pub fn same(a: Signature, b: Signature) -> bool
     ensures { result ≡ backup_same a b }
 {
-    if a.n != b.n {
-        return false;
-    }
-    if a.s1 != b.s1 {
-        return false;
-    }
-    if a.s2 != b.s2 {
-        return false;
-    }
-    if a.s3 != b.s3 {
-        return false;
-    }
-    a.s4 == b.s4
+    a == b
 }

@@ -1,17 +1,11 @@
--- `backup::open` meets its contract: the map's reading decides, and where it holds the lengths.
+-- `backup::open` meets its contract: where the map breaks, so does the opening.
 -- Assumes nothing.
-use mathlib.Core.Path.{sym, ◌∙◌}
-use Rattle.backup.proofs.Opened.{open_breaks, open_holds}
+use mathlib.Core.Path.{◌∙◌}
+use Rattle.std.proofs.lemmas.Result.{err_from_is_err_and}
+use Rattle.backup.proofs.Opened.{open_broken}
 use Rattle.backup.proofs.open.Goals as goal
 
-pub returns-in-Breaks : goal.returns-in-Breaks
-returns-in-Breaks c =
-    let args : _ = c.args in
-    let read : _ = c.read-reading in
-    sym (open_breaks _ _ args.map.now c.in-Breaks.place (sym read.ensures ∙ c.in-Breaks.is))
-
-pub returns-in-Holds : goal.returns-in-Holds
-returns-in-Holds c =
-    let args : _ = c.args in
-    let read : _ = c.read-reading in
-    c.matched.ensures ∙ sym (open_holds _ _ args.map.now c.in-Holds.h (sym read.ensures ∙ c.in-Holds.is))
+pub returns-in_err-h : goal.returns-in_err-h
+returns-in_err-h c =
+    let p : _ = err_from_is_err_and c.from_residual.result c.from_residual.ensures.1 in
+    p.1 ∙ open_broken c.args.one.count c.args.other.count c.args.map.now c.in_err-h.field-0.0 c.read.ensures c.in_err-h.was p.2
