@@ -1,5 +1,6 @@
 -- One page of a store in the map's bytes: a kept page changes nothing, and a written one its bytes in the image and its entry in the map.
 -- Assumes nothing.
+use Rattle.std.specs.Prelude.{Ok}
 use mathlib.Core.Path.{◌≡◌, sym, ap, ap₂, ◌∙◌}
 use mathlib.Core.Bool.{Bool, true, false}
 use mathlib.Core.List.{List}
@@ -11,7 +12,6 @@ use Rattle.map.specs.Files.{pages, file, entry_put}
 use Rattle.map.specs.Making.{made_entry}
 use Rattle.map.specs.Reading.{reading, entry_at}
 use Rattle.map.specs.declared.Header.{Header}
-use Rattle.map.specs.declared.Reading.TheVariants.{Holds}
 use Rattle.map.proofs.Holding.{holds_sized, holds_held}
 use Rattle.map.proofs.Maps.{made_held}
 use Rattle.map.proofs.Readback.{file_of_reading}
@@ -23,9 +23,9 @@ use Rattle.store.specs.declared.Answer.{Answer}
 use Rattle.store.specs.declared.Answer.TheVariants.{Kept, Written}
 
 abbrev pub passed_of : Answer → ℕ → List ℕ → List ℕ → Stepped
-passed_of answer k image map = record { answer = answer; next = record { page = suc k }; image = image; map = map }
+passed_of answer k image map = record { answer = Ok answer; next = record { page = suc k }; image = image; map = map }
 
-module _ (h : Header) (table image map : List ℕ) (k : ℕ) (octets : Octets map) (holds : reading map ≡ Holds h) where
+module _ (h : Header) (table image map : List ℕ) (k : ℕ) (octets : Octets map) (holds : reading map ≡ Ok h) where
   pub kept_passing : agrees h (entry_at h.n map) table k ≡ true → passing h table image map k ≡ passed_of (Kept k) k image map
   unfolding passing
   kept_passing e =

@@ -10,14 +10,12 @@ use native.Mathlib.Decide.{dec_lt}
 use native.Mathlib.Omega.{arith}
 use lib.ListN.{length, set}
 use borrow.Author.Tests.{le-ltb, lt-ltb, eq-eqb, ne_eqb}
-use Rattle.units.specs.declared.Listed.TheVariants.{Numbers, Refused}
-use Rattle.units.specs.declared.Verdict.{Verdict}
+use Rattle.units.specs.Refusals.{Verdict}
 use Rattle.units.proofs.Noting as Noting
 use Rattle.signature.specs.Objects.{Octets}
 use Rattle.map.specs.Files.{pages, file}
 use Rattle.map.specs.Reading.{reading, entry_at}
 use Rattle.map.specs.declared.Header.{Header}
-use Rattle.map.specs.declared.Reading.TheVariants.{Holds}
 use Rattle.map.proofs.Contents.{Sized, file_length, file_read, entry_read}
 use Rattle.map.proofs.Holding.{holds_header, holds_sized, holds_held, holds_length}
 use Rattle.map.proofs.Readback.{file_of_reading}
@@ -32,7 +30,9 @@ use Rattle.store.specs.Stores.{stored_of, stored_to, open_store}
 use Rattle.store.specs.declared.Answer.TheVariants.{Kept, Written, Finished}
 use Rattle.store.specs.declared.Place.{Place}
 use Rattle.store.specs.declared.Step.{Step}
-use Rattle.store.proofs.Tags.{told_kept, told_written, told_neither, told_not_finished}
+use Rattle.store.proofs.Tags.{never_refused, told_kept, told_written, told_not_finished}
+use Rattle.std.specs.Prelude.{Ok, Err}
+use Rattle.units.specs.declared.Refusal.{Refusal}
 
 -- the first k pages are through
 pub record Through (h : Header) (table image₀ map₀ : List ℕ) (k : ℕ) (image map : List ℕ) : Type 0 where
@@ -42,17 +42,17 @@ pub record Through (h : Header) (table image₀ map₀ : List ℕ) (k : ℕ) (im
 
 -- a list without room for every page is refused
 pub no_room : (h : Header) (table image map list : List ℕ) {count : ℕ} → count ≡ pages h → length list < count
-    → stored_of (Refused (record { number = 7; value = count })) image map list ≡ open_store h table image map list
+    → stored_of (Err (Refusal.Room count)) image map list ≡ open_store h table image map list
 unfolding open_store
 no_room h table image map list is short =
     let few : length list < pages h = omega (arith, is) in
-    ap (λ (k : ℕ). stored_of (Refused (record { number = 7; value = k })) image map list) is ∙ sym (simp (lt-ltb _ _ few))
+    ap (λ (k : ℕ). stored_of (Err (Refusal.Room k)) image map list) is ∙ sym (simp (lt-ltb _ _ few))
 
 -- what a store may start from
 pub record Ready (h : Header) (table image map : List ℕ) : Type 0 where
   pub table_octets : Octets table
   pub map_octets : Octets map
-  pub holds : reading map ≡ Holds h
+  pub holds : reading map ≡ Ok h
   pub table_length : length table ≡ h.bucket.count
   pub image_length : length image ≡ h.bucket.count
 
@@ -73,7 +73,7 @@ module _ {h : Header} {table image₀ map₀ : List ℕ} (ready : Ready h table 
       }
 
   module _ {k : ℕ} {image map : List ℕ} (t : Through h table image₀ map₀ k image map) where
-    pub through_reads : reading map ≡ Holds h
+    pub through_reads : reading map ≡ Ok h
     through_reads = ap reading t.map_is ∙ file_read h _ sized (held k)
 
     pub through_length : length image ≡ h.bucket.count
@@ -96,7 +96,7 @@ module _ {h : Header} {table image₀ map₀ : List ℕ} (ready : Ready h table 
         let b : Backup = stored h table (backup_in h.n image₀ map₀) k in
         let next : page_stored h table b k ≡ stored h table (backup_in h.n image₀ map₀) (suc k) = sym (next_stored h table (backup_in h.n image₀ map₀) k) in
         ap₂ {C = Stepped}
-        (λ (i m : List ℕ). record { answer = page_answer k (agrees h (entry_at h.n map) table k); next = record { page = suc k }; image = i; map = m })
+        (λ (i m : List ℕ). record { answer = Ok (page_answer k (agrees h (entry_at h.n map) table k)); next = record { page = suc k }; image = i; map = m })
         (alike_image h table (backup_in h.n image map) b t.image_is entries k inside)
         (same_file h _ _ (alike_entries h table (backup_in h.n image map) b t.image_is entries k inside))
         ∙ ap₂ (λ (t : Bool) (a : Backup). passed_to h (page_answer k t) k a) (same_agrees h _ _ table k here) next
@@ -114,7 +114,7 @@ module _ {h : Header} {table image₀ map₀ : List ℕ} (ready : Ready h table 
           let so : open_step h table image map (record { page = k }) ≡ passing h table image map k = simp (le-ltb _ _ below, ne_eqb _ _ apart) in
           e ∙ so ∙ through_passing inside
 
-      stop : k ≡ pages h → stepped_of s image' map' ≡ staying Finished (record { page = k }) image map
+      stop : k ≡ pages h → stepped_of s image' map' ≡ staying (Ok Finished) (record { page = k }) image map
       unfolding open_step
       stop all = let below : k ≤ pages h = omega arith in e ∙ simp (le-ltb _ _ below, eq-eqb _ _ all)
 
@@ -122,11 +122,11 @@ module _ {h : Header} {table image₀ map₀ : List ℕ} (ready : Ready h table 
         pub inside : k < pages h
         pub up : s.next.page ≡ suc k
         pub next : Through h table image₀ map₀ s.next.page image' map'
-        pub told : s.answer ≡ page_answer k (agrees h (entry_at h.n map₀) table k)
+        pub told : s.answer ≡ Ok (page_answer k (agrees h (entry_at h.n map₀) table k))
 
       pub record Done : Type 0 where
         pub all : k ≡ pages h
-        pub told : s.answer ≡ Finished
+        pub told : s.answer ≡ Ok Finished
         pub image_kept : image' ≡ image
         pub map_kept : map' ≡ map
 
@@ -157,23 +157,22 @@ module _ {h : Header} {table image₀ map₀ : List ℕ} (ready : Ready h table 
       pub taken : Passed ⊎ Done
       taken = dite (dec_lt k (pages h)) (λ (inside : k < pages h). inl (passed inside)) (λ past. inr (done (omega (arith, t.within))))
 
-      pub on_kept : {j : ℕ} → s.answer ≡ Kept j → Passed × (agrees h (entry_at h.n map₀) table k ≡ true)
+      pub on_kept : {j : ℕ} → s.answer ≡ Ok (Kept j) → Passed × (agrees h (entry_at h.n map₀) table k ≡ true)
       on_kept {j} is =
           ⊎_elim (λ (p : Passed). (p, told_kept k _ j (sym is ∙ p.told))) (λ (d : Done). absurd (told_not_finished j true (sym is ∙ d.told))) taken
 
-      pub on_written : {j : ℕ} → s.answer ≡ Written j → Passed × (agrees h (entry_at h.n map₀) table k ≡ false) × (j ≡ k)
+      pub on_written : {j : ℕ} → s.answer ≡ Ok (Written j) → Passed × (agrees h (entry_at h.n map₀) table k ≡ false) × (j ≡ k)
       on_written {j} is =
           ⊎_elim
           (λ (p : Passed). let w : _ = told_written k _ j (sym is ∙ p.told) in (p, w.0, w.1))
           (λ (d : Done). absurd (told_not_finished j false (sym is ∙ d.told)))
           taken
 
-      pub on_neither : ((x : ℕ) → s.answer ≡ Kept x → ⊥) → ((x : ℕ) → s.answer ≡ Written x → ⊥) → Done
-      on_neither kept written =
-          ⊎_elim
-          (λ (p : Passed). absurd (told_neither k (agrees h (entry_at h.n map₀) table k) (λ x e. kept x (p.told ∙ e)) (λ x e. written x (p.told ∙ e))))
-          (λ (d : Done). d)
-          taken
+      pub on_finished : s.answer ≡ Ok Finished → Done
+      on_finished is = ⊎_elim (λ (p : Passed). absurd (told_not_finished k _ (sym p.told ∙ is))) (λ (d : Done). d) taken
+
+      pub on_refused : {r : Refusal} → s.answer ≡ Err r → ⊥
+      on_refused is = ⊎_elim (λ (p : Passed). never_refused (sym p.told ∙ is)) (λ (d : Done). never_refused (sym d.told ∙ is)) taken
 
 -- ---- the list
 
@@ -203,19 +202,19 @@ module _ {h : Header} {table map₀ list₀ : List ℕ} where
 -- ---- all pages are through: the store is what its definition says
 
 pub all_through : {h : Header} {table image₀ map₀ list₀ : List ℕ} {k : ℕ} {image map list : List ℕ} {found : ℕ} → k ≡ pages h → pages h ≤ length list₀
-    → Through h table image₀ map₀ k image map → Noted h table map₀ list₀ k list found → stored_of (Numbers found) image map list ≡ open_store h table image₀ map₀ list₀
+    → Through h table image₀ map₀ k image map → Noted h table map₀ list₀ k list found → stored_of (Ok found) image map list ≡ open_store h table image₀ map₀ list₀
 unfolding open_store
 all_through {h} {table} {image₀} {map₀} {list₀} {k} {image} {map} {list} {found} all room t n =
     let b : Backup = backup_in h.n image₀ map₀ in
     let so : open_store h table image₀ map₀ list₀ ≡ stored_to h (stored h table b (pages h)) (changed h table (entry_at h.n map₀) (pages h)) list₀ =
     simp (le-ltb _ _ room) in
-    ap₂ (λ (i m : List ℕ). stored_of (Numbers found) i m list) t.image_is t.map_is
-    ∙ ap₂ (λ (c : ℕ) (l : List ℕ). stored_of (Numbers c) (stored h table b k).image (file h (stored h table b k).entry) l) n.so_far.found_is n.so_far.list_is
+    ap₂ (λ (i m : List ℕ). stored_of (Ok found) i m list) t.image_is t.map_is
+    ∙ ap₂ (λ (c : ℕ) (l : List ℕ). stored_of (Ok c) (stored h table b k).image (file h (stored h table b k).entry) l) n.so_far.found_is n.so_far.list_is
     ∙ ap (λ (i : ℕ). stored_to h (stored h table b i) (changed h table (entry_at h.n map₀) i) list₀) all
     ∙ sym so
 
 -- the public step is the step on an opened backup, where the map reads and the lengths agree
-pub step_opens : (h : Header) (table image map : List ℕ) (place : Place) → reading map ≡ Holds h → length table ≡ h.bucket.count → length image ≡ h.bucket.count
+pub step_opens : (h : Header) (table image map : List ℕ) (place : Place) → reading map ≡ Ok h → length table ≡ h.bucket.count → length image ≡ h.bucket.count
     → stepping table image map place ≡ open_step h table image map place
 unfolding stepping open_step
 step_opens h table image map place holds table_length image_length =

@@ -3,15 +3,14 @@ use Rattle.std.specs.Prelude.{List, [], ◌∷◌, ℕ, length}
 use Rattle.units.specs.Filling.{room}
 use Rattle.units.specs.Refusals.{Test, first}
 use Rattle.units.specs.Writing.{written}
-use Rattle.units.specs.declared.Listed.{Listed}
-use Rattle.units.specs.declared.Listed.TheVariants.{Numbers, Refused}
-use Rattle.units.specs.declared.Verdict.{Verdict}
+use Rattle.units.specs.Naming.{Listed}
+use Rattle.units.specs.Refusals.{Verdict}
 use Rattle.map.specs.Files.{pages, file}
 use Rattle.map.specs.Reading.{header_of, entry_at}
 use Rattle.map.specs.declared.Header.{Header}
 use Rattle.backup.specs.Backups.{Backup, backup_in, stored, changed}
 use Rattle.backup.specs.Openings.{open_tests}
-use Rattle.store.specs.declared.Answer.{Answer}
+use Rattle.std.specs.Prelude.{Ok, Err}
 
 pub record Stored : Type 0 where
   pub answer : Listed
@@ -24,19 +23,12 @@ stored_of answer image map list = record { answer = answer; image = image; map =
 
 -- the numbers of the written pages stand at the list's start, and the rest of it is as it was
 abbrev pub stored_to : Header → Backup → List ℕ → List ℕ → Stored
-stored_to h after numbers list = stored_of (Numbers (length numbers)) after.image (file h after.entry) (written list 0 numbers)
+stored_to h after numbers list = stored_of (Ok (length numbers)) after.image (file h after.entry) (written list 0 numbers)
 
 abbrev pub store_unless : Verdict → Header → List ℕ → List ℕ → List ℕ → List ℕ → Stored
-store_unless Verdict.Allowed h table image map list =
+store_unless (Ok _) h table image map list =
     stored_to h (stored h table (backup_in h.n image map) (pages h)) (changed h table (entry_at h.n map) (pages h)) list
-store_unless (Verdict.Refused r) h table image map list = stored_of (Refused r) image map list
-
--- what a store answers whose last step answered so
-abbrev pub ended_by : Answer → ℕ → Listed
-ended_by (Answer.Kept k) found = Numbers found
-ended_by (Answer.Written k) found = Numbers found
-ended_by Answer.Finished found = Numbers found
-ended_by (Answer.Refused r) found = Refused r
+store_unless (Err r) h table image map list = stored_of (Err r) image map list
 
 -- the list has room for as many numbers as there are pages
 abbrev pub list_tests : Header → List ℕ → List Test

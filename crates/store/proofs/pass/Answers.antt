@@ -1,6 +1,7 @@
 -- `store::pass` meets its contract: a kept page is left as it is; a written one is put in its place, and its signature into its entry.
 -- Assumes nothing.
 use mathlib.Core.List.{List}
+use Rattle.std.specs.Prelude.{Ok}
 use mathlib.Core.Bool.{true, false}
 use mathlib.Core.Path.{◌≡◌, sym, ap, ap₂, ◌∙◌}
 use Prim.Native.Nat.{ℕ, ◌+◌, ◌-◌, ◌*◌, ◌≤◌, ◌<◌, min}
@@ -35,7 +36,7 @@ returns-then-same c =
     let args : _ = c.args in
     let agreed : agrees args.h (entry_at args.h.n args.map.now) args.table.now args.k ≡ true =
     agrees_by _ _ _ _ _ _ _ _ page-at.ensures signed.ensures c.entry_at-entry.ensures c.same.ensures ∙ c.if-same.true in
-    ap {B = Stepped} (λ (p : ℕ). record { answer = Kept args.k; next = record { page = p }; image = args.image.now; map = args.map.now }) (add-one args.k)
+    ap {B = Stepped} (λ (p : ℕ). record { answer = Ok (Kept args.k); next = record { page = p }; image = args.image.now; map = args.map.now }) (add-one args.k)
     ∙ sym (kept_passing args.h args.table.now args.image.now args.map.now args.k (λ i. (slice-known2.given i).fits) pre.0 agreed)
 
 pub returns : goal.returns
@@ -60,7 +61,7 @@ returns c =
     let long : length page-at.result.now ≡ min page (length args.table.now - args.k * page) = ap length cut ∙ page_length page args.table.now args.k in
     let fits : args.k * page + length page-at.result.now ≤ length image = omega (arith, pre.1, pre.2) in
     let put : put-part.new.buffer ≡ part_put page-at.result.now image (args.k * page) = put-part.ensures in
-    ap {B = Stepped} (λ (p : ℕ). record { answer = Written args.k; next = record { page = p }; image = put-part.new.buffer; map = c.put_entry.new.map }) (add-one args.k)
+    ap {B = Stepped} (λ (p : ℕ). record { answer = Ok (Written args.k); next = record { page = p }; image = put-part.new.buffer; map = c.put_entry.new.map }) (add-one args.k)
     ∙ ap₂ (passed_of (Written args.k) args.k)
     (put ∙ part_put_lem _ image _ fits ∙ ap (written image (args.k * page)) cut)
     (c.put_entry.ensures
