@@ -1,5 +1,6 @@
 -- An image page that differs in 1 to n symbols from the page whose signature its entry holds is always refused as DAMAGED.
 -- Assumes nothing.
+use Rattle.std.specs.Prelude.{Ok}
 use mathlib.Core.Path.{◌≡◌, refl, ap, ◌∙◌}
 use mathlib.Core.Bool.{Bool, true, false, not}
 use mathlib.Core.List.{List}
@@ -8,10 +9,8 @@ use native.Mathlib.Omega.{arith}
 use lib.ListN.{length}
 use borrow.Author.Tests.{lt-leb, lt-ltb}
 use Rattle.units.specs.Filling.{outcome}
-use Rattle.units.specs.Refusals.{first, DAMAGED}
-use Rattle.units.specs.declared.Filled.TheVariants as Filled
-use Rattle.units.specs.declared.Verdict.{Verdict}
-use Rattle.units.specs.declared.Verdict.TheVariants.{Refused}
+use Rattle.units.specs.Refusals.{first}
+use Rattle.units.specs.Refusals.{Verdict}
 use Rattle.units.proofs.First.{first_before, first_named_lem, first_lowest}
 use Rattle.signature.specs.Differences.{differing}
 use Rattle.signature.specs.Kinds.{wide}
@@ -22,7 +21,6 @@ use Rattle.map.specs.Buckets.{page_at}
 use Rattle.map.specs.Files.{pages}
 use Rattle.map.specs.Reading.{reading, entry_at}
 use Rattle.map.specs.declared.Header.{Header}
-use Rattle.map.specs.declared.Reading.TheVariants.{Holds}
 use Rattle.map.proofs.Contents.{Sized}
 use Rattle.map.proofs.Holding.{holds_sized}
 use Rattle.map.proofs.MadeMaps.{n_most, page_most}
@@ -32,8 +30,11 @@ use Rattle.backup.proofs.Opened.{Usable, holds_usable}
 use Rattle.backup.proofs.Pages.{page_length}
 use Rattle.backup.proofs.Sameness.{agrees_is}
 use Rattle.load.specs.Loads.{damaged, page_tests, asking, lowest_damaged, bucket_tests, loading}
+use Rattle.std.specs.Prelude.{Err}
+use Rattle.units.specs.Refusals.{refused}
+use Rattle.units.specs.declared.Refusal.{Refusal}
 
-module _ (h : Header) (image map : List ℕ) (octets : Octets image) (holds : reading map ≡ Holds h) (long : length image ≡ h.bucket.count)
+module _ (h : Header) (image map : List ℕ) (octets : Octets image) (holds : reading map ≡ Ok h) (long : length image ≡ h.bucket.count)
     (k : ℕ) (inside : k < pages h)
     -- the page that was stored, and its entry
     (page : List ℕ) (page-octets' : Octets page) (as_long : length (page_at h.page.count image k) ≡ length page)
@@ -56,23 +57,23 @@ module _ (h : Header) (image map : List ℕ) (octets : Octets image) (holds : re
           some few (agrees_is h (entry_at h.n map) image k e ∙ entry))
       at false e = refl
 
-  pub page_damaged : asking image map k ≡ Refused (record { number = DAMAGED; value = k })
+  pub page_damaged : asking image map k ≡ refused (Refusal.Damaged k)
   unfolding asking
   page_damaged =
       let u : Usable (length image) (length image) map h = holds_usable (length image) (length image) map h holds long long in
-      let so : first (page_tests h image map k) ≡ Refused (record { number = DAMAGED; value = k }) = simp (lt-leb _ _ inside, found) in
+      let so : first (page_tests h image map k) ≡ refused (Refusal.Damaged k) = simp (lt-leb _ _ inside, found) in
       u.rest (λ g. page_tests g image map k) ∙ so
 
   -- the bucket's load names the lowest such page
   pub bucket_damaged : (table : List ℕ) → length table ≡ h.bucket.count
-      → ((loading image map table).answer ≡ Filled.Refused (record { number = DAMAGED; value = lowest_damaged h image map })) × (lowest_damaged h image map ≤ k)
+      → ((loading image map table).answer ≡ Err (Refusal.Damaged (lowest_damaged h image map))) × (lowest_damaged h image map ≤ k)
   unfolding loading
   bucket_damaged table table-long =
       let u : Usable (length table) (length image) map h = holds_usable (length table) (length image) map h holds table-long long in
       let reach : k < 0 + pages h = omega arith in
       let low : lowest_damaged h image map ≤ k = first_before (damaged h image map) (pages h) 0 k (omega arith) reach found in
       let below : lowest_damaged h image map < pages h = omega arith in
-      let so : first (bucket_tests h image map) ≡ Refused (record { number = DAMAGED; value = lowest_damaged h image map }) = simp (lt-ltb _ _ below) in
+      let so : first (bucket_tests h image map) ≡ refused (Refusal.Damaged (lowest_damaged h image map)) = simp (lt-ltb _ _ below) in
       (ap (λ (v : Verdict). (outcome v (length image) image table).answer) (u.rest (λ g. bucket_tests g image map) ∙ so), low)
 
 -- the page that a bucket's load names is damaged, and none below it is

@@ -2,27 +2,27 @@
 use Rattle.std.specs.Prelude.{Bool, not, List, [], ◌∷◌, ℕ, leb, ltb, length}
 use Rattle.units.specs.Filling.{Outcome, filling}
 use Rattle.units.specs.Naming.{first_named}
-use Rattle.units.specs.Refusals.{Test, gives, first, PAGENO, DAMAGED}
-use Rattle.units.specs.declared.Verdict.{Verdict}
-use Rattle.units.specs.declared.Verdict.TheVariants.{Allowed, Refused}
+use Rattle.units.specs.Refusals.{Verdict, Test, gives, first}
 use Rattle.map.specs.Buckets.{page_at}
 use Rattle.map.specs.Files.{pages}
 use Rattle.map.specs.Reading.{header_of, entry_at}
 use Rattle.map.specs.declared.Header.{Header}
 use Rattle.backup.specs.Backups.{agrees}
 use Rattle.backup.specs.Openings.{open_tests}
+use Rattle.std.specs.Prelude.{Ok, Err}
+use Rattle.units.specs.declared.Refusal.{Refusal}
 
 -- page k of the image has another signature than its entry
 abbrev pub damaged : Header → List ℕ → List ℕ → ℕ → Bool
 damaged h image map k = not (agrees h (entry_at h.n map) image k)
 
 abbrev pub damage_test : Bool → ℕ → Test
-damage_test found k = record { applies = found; refusal = record { number = DAMAGED; value = k } }
+damage_test found k = gives (Refusal.Damaged k) found
 
 -- ---- one page
 
 abbrev pub page_tests : Header → List ℕ → List ℕ → ℕ → List Test
-page_tests h image map k = gives PAGENO (leb (pages h) k) ∷ damage_test (damaged h image map k) k ∷ []
+page_tests h image map k = gives Refusal.PageNo (leb (pages h) k) ∷ damage_test (damaged h image map k) k ∷ []
 
 -- there is no table: the image's length stands for both
 abbrev pub load_tests : List ℕ → List ℕ → ℕ → List Test
@@ -34,8 +34,8 @@ asking image map k = first (load_tests image map k)
 
 -- a refused load is an empty part
 abbrev pub part_unless : Verdict → List ℕ → List ℕ
-part_unless Allowed page = page
-part_unless (Refused r) page = []
+part_unless (Ok _) page = page
+part_unless (Err r) page = []
 
 unfoldable pub loaded_page : List ℕ → List ℕ → ℕ → List ℕ
 loaded_page image map k = part_unless (asking image map k) (page_at (header_of map).page.count image k)

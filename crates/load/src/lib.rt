@@ -8,54 +8,40 @@ ghost use Rattle.backup.specs.Openings.{opened};
 ghost use Rattle.backup.specs.Backups.{agrees};
 ghost use Rattle.load.specs.Loads.{asking, loaded_page, lowest_damaged, open_load, loading};
 
-use backup::Opening;
 use map::Header;
-use units::{Bytes, Filled, Refusal, Verdict};
+use units::{Bytes, Refusal};
 
 // Page k as it stands in the image. A refused load is an empty part.
 pub fn load_page<'a>(image: &'a [u8], map: &[u8], k: usize) -> &'a [u8]
     ensures { result.now ≡ loaded_page image.now map.now k }
 {
-    let opening = open_page(image, map, k);
-    let Opening::Open(h) = opening else {
+    let Ok(h) = open_page(image, map, k) else {
         return &image[..0];
     };
     map::page_at(h.page, image, k)
 }
 
 // The same inputs put as a question: why page k is not loaded, or that it is.
-pub fn ask_page(image: &[u8], map: &[u8], k: usize) -> Verdict
+pub fn ask_page(image: &[u8], map: &[u8], k: usize) -> Result<(), Refusal>
     ensures { result ≡ asking image.now map.now k }
 {
-    let opening = open_page(image, map, k);
-    match opening {
-        Opening::Open(_) => Verdict::Allowed,
-        Opening::Refused(r) => Verdict::Refused(r),
-    }
+    open_page(image, map, k)?;
+    Ok(())
 }
 
 // That page k may be loaded, with the header of its map; or why not.
-pub fn open_page(image: &[u8], map: &[u8], k: usize) -> Opening
+pub fn open_page(image: &[u8], map: &[u8], k: usize) -> Result<Header, Refusal>
     ensures { result ≡ opened (asking image.now map.now k) (header_of map.now) }
 {
     let length = Bytes { count: image.len() };
-    let opening = backup::open(length, length, map);
-    let Opening::Open(h) = opening else {
-        return opening;
-    };
+    let h = backup::open(length, length, map)?;
     if k >= map::pages(h) {
-        return Opening::Refused(Refusal {
-            number: Refusal::PAGENO,
-            value: 0,
-        });
+        return Err(Refusal::PageNo);
     }
     if !whole(h, image, map, k) {
-        return Opening::Refused(Refusal {
-            number: Refusal::DAMAGED,
-            value: k,
-        });
+        return Err(Refusal::Damaged(k));
     }
-    Opening::Open(h)
+    Ok(h)
 }
 
 // Whether page k of the image has its entry's signature.
@@ -71,41 +57,35 @@ fn whole(h: Header, image: &[u8], map: &[u8], k: usize) -> bool
 fn lowest_damaged(h: Header, image: &[u8], map: &[u8]) -> usize
     ensures { result ≡ lowest_damaged h image.now map.now }
 {
-    let mut left = map::pages(h);
-    let mut k: usize = 0;
-    while left > 0 {
+    let count = map::pages(h);
+    for k in 0..count {
         if !whole(h, image, map, k) {
             return k;
         }
-        k += 1;
-        left -= 1;
     }
-    k
+    count
 }
 
 // All of the image goes to the table, when every page of it was found whole.
-pub fn load_bucket(image: &[u8], map: &[u8], table: &mut [u8]) -> Filled
+pub fn load_bucket(image: &[u8], map: &[u8], table: &mut [u8]) -> Result<Bytes, Refusal>
     ensures { outcome_of result table.new ≡ loading image.now map.now table.old }
 {
-    let opening = backup::open(
+    let h = backup::open(
         Bytes { count: table.len() },
         Bytes { count: image.len() },
         map,
-    );
-    match opening {
-        Opening::Refused(r) => Filled::Refused(r),
-        Opening::Open(h) => move_bucket(h, image, map, table),
-    }
+    )?;
+    move_bucket(h, image, map, table)
 }
 
-fn move_bucket(h: Header, image: &[u8], map: &[u8], table: &mut [u8]) -> Filled
+fn move_bucket(h: Header, image: &[u8], map: &[u8], table: &mut [u8]) -> Result<Bytes, Refusal>
     requires { length image.now ≡ length table.old }
     ensures { outcome_of result table.new ≡ open_load h image.now map.now table.old }
 {
     let k = lowest_damaged(h, image, map);
     if k < map::pages(h) {
-        return units::refused(Refusal::DAMAGED, k);
+        return Err(Refusal::Damaged(k));
     }
-    units::put_part(image, table, 0);
-    Filled::Written(Bytes { count: image.len() })
+    table.copy_from_slice(image);
+    Ok(Bytes { count: image.len() })
 }

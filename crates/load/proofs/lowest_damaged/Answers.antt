@@ -1,5 +1,8 @@
 -- `load::lowest_damaged` meets its contract. The invariant: the first damaged page of those left is the first of all.
 -- Assumes nothing.
+use Prim.Native.Nat.{ℕ, ◌+◌, ◌-◌}
+use Rattle.units.specs.Naming.{first_named}
+use Rattle.map.specs.Files.{pages}
 use mathlib.Core.Path.{◌≡◌, sym, ap, ◌∙◌}
 use mathlib.Core.Bool.{true, false, not}
 use native.Mathlib.Omega.{arith}
@@ -10,18 +13,21 @@ use Rattle.load.proofs.lowest_damaged.Goals as goal
 pub returns-then-not-whole : goal.returns-then-not-whole
 returns-then-not-whole c =
     let args : _ = c.args in
-    let at : _ = c.loop-left in
+    let at : _ = c.loop-k in
     let bad : damaged args.h args.image.now args.map.now at.k ≡ true = ap not (sym c.whole.ensures ∙ c.if-not-whole.true) in
-    sym (turn_finds _ at.left at.k (omega arith) bad) ∙ at.invariant.0
+    sym (turn_finds _ (pages args.h - at.k) at.k (omega (arith, c.pages-count.ensures)) bad) ∙ at.invariant
 
-pub loop-left-preserved : goal.loop-left-preserved
-loop-left-preserved c =
+pub loop-k-preserved : goal.loop-k-preserved
+loop-k-preserved c =
     let args : _ = c.args in
-    let at : _ = c.loop-left in
+    let at : _ = c.loop-k in
     let good : damaged args.h args.image.now args.map.now at.k ≡ false = ap not (sym c.whole.ensures ∙ c.if-not-whole.false) in
-    (sym (turn_goes_on _ at.left at.k (omega arith) good) ∙ at.invariant.0, omega (arith, at.invariant.1))
+    let next : pages args.h - (at.k + 1) ≡ pages args.h - at.k - 1 = omega arith in
+    ap (λ (m : ℕ). first_named (damaged args.h args.image.now args.map.now) m (at.k + 1)) next
+    ∙ sym (turn_goes_on _ (pages args.h - at.k) at.k (omega (arith, c.pages-count.ensures)) good) ∙ at.invariant
 
 pub returns : goal.returns
 returns c =
-    let at : _ = c.loop-left in
-    sym (turn_ends _ at.left at.k (omega arith)) ∙ at.invariant.0
+    let at : _ = c.loop-k in
+    let end : at.k ≡ c.pages-count.result = omega arith in
+    sym end ∙ sym (turn_ends _ (pages c.args.h - at.k) at.k (omega (arith, c.pages-count.ensures))) ∙ at.invariant

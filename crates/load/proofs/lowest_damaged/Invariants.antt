@@ -1,16 +1,12 @@
 -- `load::lowest_damaged` meets its contract. The invariant: the first damaged page of those left is the first of all.
 -- Assumes nothing.
 use mathlib.Core.Path.{◌≡◌}
-use Prim.Native.Nat.{◌+◌}
+use Prim.Native.Nat.{◌-◌}
 use Rattle.units.specs.Naming.{first_named}
 use Rattle.map.specs.Files.{pages}
 use Rattle.load.specs.Loads.{damaged, lowest_damaged}
 use Rattle.load.proofs.lowest_damaged.Given as goal
 
-abbrev pub invariant-loop-left : goal.invariant-loop-left
-invariant-loop-left l =
-    (first_named (damaged l.h l.image l.map) l.left l.k ≡ lowest_damaged l.h l.image l.map) × (l.k + l.left ≡ pages l.h)
-
-abbrev pub decreases-loop-left : goal.decreases-loop-left
-decreases-loop-left l =
-    l.left
+abbrev pub invariant-loop-k : goal.invariant-loop-k
+invariant-loop-k l =
+    first_named (damaged l.h l.image l.map) (pages l.h - l.k) l.k ≡ lowest_damaged l.h l.image l.map
