@@ -1,5 +1,6 @@
 -- A page that is lent as a part of the image is the image's page, and goes back where it stood.
 -- Assumes nothing.
+use Rattle.std.specs.Prelude.{Ok}
 use mathlib.Core.Path.{◌≡◌, sym, ap, ◌∙◌}
 use mathlib.Core.Logic.{dite}
 use mathlib.Core.List.{List, ◌++◌}
@@ -15,7 +16,6 @@ use Rattle.map.specs.Buckets.{page_at}
 use Rattle.map.specs.Files.{pages}
 use Rattle.map.specs.Reading.{reading}
 use Rattle.map.specs.declared.Header.{Header}
-use Rattle.map.specs.declared.Reading.TheVariants.{Holds}
 use Rattle.map.proofs.Contents.{Sized}
 use Rattle.map.proofs.Holding.{holds_sized}
 use Rattle.map.proofs.MadeMaps.{n_most, page_most}
@@ -32,7 +32,7 @@ take_taken n l =
 
 -- page k of the image under a map that was read
 pub record Lent (h : Header) (image map : List ℕ) (k : ℕ) (page : List ℕ) : Type 0 where
-  pub holds : reading map ≡ Holds h
+  pub holds : reading map ≡ Ok h
   pub long : length image ≡ h.bucket.count
   pub inside : k < pages h
   pub is : page ≡ page_at h.page.count image k

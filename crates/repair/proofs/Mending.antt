@@ -7,7 +7,6 @@ use Prim.Native.Nat.{ℕ, ◌≤◌, ◌<◌}
 use native.Mathlib.Omega.{arith}
 use lib.Dec.{ltb}
 use borrow.Author.Tests.{ltb-true, lt-ltb, le-ltb, le-leb, lt-leb}
-use Rattle.units.specs.Refusals.{PAGENO, THIN}
 use Rattle.signature.specs.Kinds.{wide}
 use Rattle.signature.specs.Objects.{symbols}
 use Rattle.signature.specs.Operations.{own}
@@ -19,11 +18,12 @@ use Rattle.map.specs.declared.Entry.{Entry}
 use Rattle.map.specs.declared.Header.{Header}
 use Rattle.backup.specs.Backups.{same}
 use Rattle.repair.specs.Changes.{fits, value_at, position}
-use Rattle.repair.specs.declared.Repair.{Repair}
 use Rattle.repair.specs.Repairs.{change_of, put, mended, outcome_of, image_left, open_repair}
 use Rattle.repair.specs.declared.Change.{Change}
-use Rattle.repair.specs.declared.Repair.TheVariants.{Whole, Repaired, Beyond, Refused}
+use Rattle.repair.specs.declared.Repair.TheVariants.{Whole, Repaired, Beyond}
 use Rattle.repair.proofs.Finding.{found_fits}
+use Rattle.std.specs.Prelude.{Ok, Err}
+use Rattle.units.specs.declared.Refusal.{Refusal}
 
 module _ (e : Entry) (page : List ℕ) where
   pub mended_whole : same (own wide e.signature.n page) e.signature ≡ true → mended e page ≡ Whole
@@ -65,19 +65,19 @@ mended_change e page c q = at (same (own wide e.signature.n page) e.signature) q
 -- ---- a page of a backup that was opened
 
 module _ (h : Header) (image map : List ℕ) (k : ℕ) where
-  pub open_past : pages h ≤ k → open_repair h image map k ≡ outcome_of (Refused (record { number = PAGENO; value = 0 })) image
+  pub open_past : pages h ≤ k → open_repair h image map k ≡ outcome_of (Err Refusal.PageNo) image
   unfolding open_repair
   open_past past = simp (le-leb _ _ past)
 
-  pub open_thin : k < pages h → h.n < 2 → open_repair h image map k ≡ outcome_of (Refused (record { number = THIN; value = 0 })) image
+  pub open_thin : k < pages h → h.n < 2 → open_repair h image map k ≡ outcome_of (Err Refusal.Thin) image
   unfolding open_repair
   open_thin inside thin = simp (lt-leb _ _ inside, lt-ltb _ _ thin)
 
-  pub open_thin_as : {r : Repair} → k < pages h → h.n < 2 → r ≡ Refused (record { number = THIN; value = 0 }) → outcome_of r image ≡ open_repair h image map k
-  open_thin_as inside thin is = ap (λ (r : Repair). outcome_of r image) is ∙ sym (open_thin inside thin)
+  pub open_thin_as : {r : Refusal} → k < pages h → h.n < 2 → r ≡ Refusal.Thin → outcome_of (Err r) image ≡ open_repair h image map k
+  open_thin_as inside thin is = ap (λ (r : Refusal). outcome_of (Err r) image) is ∙ sym (open_thin inside thin)
 
   pub open_mends : k < pages h → 2 ≤ h.n
       → open_repair h image map k
-      ≡ outcome_of (mended (entry_at h.n map k) (page_at h.page.count image k)) (image_left h (mended (entry_at h.n map k) (page_at h.page.count image k)) image k)
+      ≡ outcome_of (Ok (mended (entry_at h.n map k) (page_at h.page.count image k))) (image_left h (mended (entry_at h.n map k) (page_at h.page.count image k)) image k)
   unfolding open_repair
   open_mends inside two = simp (lt-leb _ _ inside, le-ltb _ _ two)

@@ -1,9 +1,9 @@
 -- What repair answers, and what it leaves in the image: a page whose signature is not its entry's is put right exactly where the change of one
 -- symbol gives it that signature.
-use Rattle.std.specs.Prelude.{cond, List, [], ◌∷◌, ℕ, ◌*◌, eqb, leb, ltb, length}
-use Rattle.units.specs.Refusals.{Test, gives, first, PAGENO, THIN}
+use Rattle.std.specs.Prelude.{cond, List, [], ◌∷◌, ℕ, ◌*◌, eqb, leb, ltb, length, Result, Ok, Err}
+use Rattle.units.specs.Refusals.{Verdict, allowed, refused, Test, gives, first}
 use Rattle.units.specs.Writing.{written}
-use Rattle.units.specs.declared.Verdict.{Verdict}
+use Rattle.units.specs.declared.Refusal.{Refusal}
 use Rattle.signature.specs.Kinds.{wide}
 use Rattle.signature.specs.Objects.{symbol, symbols}
 use Rattle.signature.specs.Operations.{own}
@@ -18,7 +18,7 @@ use Rattle.backup.specs.Openings.{open_tests}
 use Rattle.repair.specs.Changes.{changed, value_at, position}
 use Rattle.repair.specs.declared.Change.{Change}
 use Rattle.repair.specs.declared.Repair.{Repair}
-use Rattle.repair.specs.declared.Repair.TheVariants.{Whole, Repaired, Beyond, Refused}
+use Rattle.repair.specs.declared.Repair.TheVariants.{Whole, Repaired, Beyond}
 
 -- ---- one page
 
@@ -41,29 +41,28 @@ unfoldable pub page_left : Repair → List ℕ → List ℕ
 page_left Whole page = page
 page_left (Repaired c) page = changed wide page c.position.count c.new
 page_left Beyond page = page
-page_left (Refused r) page = page
 
 -- ---- a page of a backup
 
 pub record Outcome : Type 0 where
-  pub answer : Repair
+  pub answer : Result Repair Refusal
   pub image : List ℕ
 
-abbrev pub outcome_of : Repair → List ℕ → Outcome
+abbrev pub outcome_of : Result Repair Refusal → List ℕ → Outcome
 outcome_of answer image = record { answer = answer; image = image }
 
 abbrev pub page_tests : Header → ℕ → List Test
-page_tests h k = gives PAGENO (leb (pages h) k) ∷ gives THIN (ltb h.n 2) ∷ []
+page_tests h k = gives Refusal.PageNo (leb (pages h) k) ∷ gives Refusal.Thin (ltb h.n 2) ∷ []
 
 -- the page goes back where it stood
 unfoldable pub image_left : Header → Repair → List ℕ → ℕ → List ℕ
 image_left h answer image k = written image (k * h.page.count) (page_left answer (page_at h.page.count image k))
 
 abbrev pub unless : Verdict → Header → List ℕ → List ℕ → ℕ → Outcome
-unless Verdict.Allowed h image map k =
+unless (Ok _) h image map k =
     let answer : Repair = mended (entry_at h.n map k) (page_at h.page.count image k) in
-    outcome_of answer (image_left h answer image k)
-unless (Verdict.Refused r) h image map k = outcome_of (Refused r) image
+    outcome_of (Ok answer) (image_left h answer image k)
+unless (Err r) h image map k = outcome_of (Err r) image
 
 -- a repair on a backup that was opened
 unfoldable pub open_repair : Header → List ℕ → List ℕ → ℕ → Outcome
@@ -77,8 +76,6 @@ unfoldable pub repairing : List ℕ → List ℕ → ℕ → Outcome
 repairing image map k = unless (first (repair_tests image map k)) (header_of map) image map k
 
 -- what the table says of an answer
-abbrev pub told : Repair → Verdict
-told Whole = Verdict.Allowed
-told (Repaired c) = Verdict.Allowed
-told Beyond = Verdict.Allowed
-told (Refused r) = Verdict.Refused r
+abbrev pub told : Result Repair Refusal → Verdict
+told (Ok answer) = allowed
+told (Err r) = refused r

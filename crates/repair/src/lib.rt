@@ -1,7 +1,7 @@
 // Repair: a page of the image with one damaged symbol is put right from its map entry.
 #![tactic(auto)]
 
-ghost use Rattle.std.specs.Prelude.{◌≡◌, false, ◌<◌, eqb, length};
+ghost use Rattle.std.specs.Prelude.{◌≡◌, false, ◌<◌, eqb, length, Ok};
 ghost use Rattle.units.specs.Naming.{first_named};
 ghost use Rattle.field.specs.Field.{GF16, α};
 ghost use Rattle.field.specs.Field.{product as field_product, power as field_power};
@@ -9,18 +9,16 @@ ghost use Rattle.signature.specs.Kinds.{wide};
 ghost use Rattle.signature.specs.Objects.{low_bytes, symbol as object_symbol, symbols as object_symbols};
 ghost use Rattle.signature.specs.Operations.{own as object_own};
 ghost use Rattle.map.specs.Reading.{reading};
-ghost use Rattle.map.specs.declared.Reading.TheVariants.{Holds};
 ghost use Rattle.backup.specs.Backups.{same};
 ghost use Rattle.repair.specs.Changes.{Tells, changed, fits as change_fits};
 ghost use Rattle.repair.specs.Repairs.{put as page_put, mended as page_mended, page_left, outcome_of, open_repair, repairing};
 
-use backup::Opening;
 use map::{Entry, Header};
 use signature::Signature;
 use units::{Bytes, Refusal, Symbols};
 
 // One symbol of a page, counted from 0.
-#[derive(Clone, Copy)]
+#[derive(Clone, Copy, Debug, PartialEq, Eq, Hash)]
 pub struct Change {
     pub position: Symbols,
     pub old: u16,
@@ -29,50 +27,40 @@ pub struct Change {
     pub marked: bool,
 }
 
-#[derive(Clone, Copy)]
+// What a repair found.
+#[derive(Clone, Copy, Debug, PartialEq, Eq, Hash)]
 pub enum Repair {
     Whole,
     Repaired(Change),
     // no change of one symbol gives the entry's signature
     Beyond,
-    Refused(Refusal),
 }
 
 // Page k of the image, by its entry.
-pub fn repair_page(image: &mut [u8], map: &[u8], k: usize) -> Repair
+pub fn repair_page(image: &mut [u8], map: &[u8], k: usize) -> Result<Repair, Refusal>
     ensures { outcome_of result image.new ≡ repairing image.old map.now k }
 {
     let length = Bytes { count: image.len() };
-    let opening = backup::open(length, length, map);
-    match opening {
-        Opening::Refused(r) => Repair::Refused(r),
-        Opening::Open(h) => repair_on(h, image, map, k),
-    }
+    let h = backup::open(length, length, map)?;
+    repair_on(h, image, map, k)
 }
 
 // The same on a backup that was opened.
 #[tactic(auto, using(crate::proofs::Mending::open_thin_as))]
-fn repair_on(h: Header, image: &mut [u8], map: &[u8], k: usize) -> Repair
-    requires { (reading map.now ≡ Holds h) × (length image.old ≡ h.bucket.count) }
+fn repair_on(h: Header, image: &mut [u8], map: &[u8], k: usize) -> Result<Repair, Refusal>
+    requires { (reading map.now ≡ Ok h) × (length image.old ≡ h.bucket.count) }
     ensures { outcome_of result image.new ≡ open_repair h image.old map.now k }
 {
     if k >= map::pages(h) {
-        return refused(Refusal::PAGENO);
+        return Err(Refusal::PageNo);
     }
     if h.n < 2 {
-        return refused(Refusal::THIN);
+        return Err(Refusal::Thin);
     }
     let entry = map::entry_at(h.n, map, k);
     let start = k * h.page.count;
     let end = start + map::page_at(h.page, image, k).len();
-    mend(entry, &mut image[start..end])
-}
-
-// Both refusals of its own have the value 0.
-fn refused(number: u32) -> Repair
-    ensures { result ≡ Repair.Refused (record { number = number; value = 0 }) }
-{
-    Repair::Refused(Refusal { number, value: 0 })
+    Ok(mend(entry, &mut image[start..end]))
 }
 
 // A page by its entry.
@@ -131,17 +119,13 @@ fn power_between(a: u16, b: u16, m: usize) -> usize
     ensures { result ≡ first_named (λ i. eqb (field_product GF16 a (field_power GF16 α i)) b) m 0 }
 {
     let mut x = a;
-    let mut i: usize = 0;
-    let mut left = m;
-    while left > 0 {
+    for i in 0..m {
         if x == b {
             return i;
         }
         x = field::double(x);
-        i += 1;
-        left -= 1;
     }
-    i
+    m
 }
 
 // Whether x in the place of symbol i gives the page the signature s.
@@ -154,8 +138,7 @@ fn fits(s: Signature, own: Signature, page: &[u8], i: Symbols, x: u16) -> bool
     }
     let old = low_bytes(signature::symbol(page, i));
     let new = low_bytes(x);
-    let edited = signature::edit(own, i, &old, &new);
-    let signature::Answer::Signed(t) = edited else {
+    let Ok(t) = signature::edit(own, i, &old, &new) else {
         return false;
     };
     backup::same(t, s)
@@ -166,16 +149,13 @@ fn stays(page: &[u8], i: Symbols, x: u16) -> bool
     requires { i.count < object_symbols 2 page.now }
     ensures { result ≡ eqb (object_symbol 2 (changed wide page.now i.count x) i.count) x }
 {
-    if page.len() - units::bytes_of(i).count > 1 {
-        return true;
-    }
-    x < 256
+    page.len() - units::bytes_of(i).count > 1 || x < 256
 }
 
 fn low_bytes(x: u16) -> [u8; 2]
     ensures { result ≡ low_bytes 2 x }
 {
-    [(x % 256) as u8, (x / 256) as u8]
+    x.to_le_bytes()
 }
 
 // x in the place of symbol i. The byte that completes a page is not in it.

@@ -1,6 +1,7 @@
 -- A page of a backup under repair: what is whole stays, one damaged symbol is restored, more are beyond where n tells them; a repair gives the page
 -- its entry's signature and changes no byte outside one symbol.
 -- Assumes nothing.
+use Rattle.std.specs.Prelude.{Ok}
 use mathlib.Core.Path.{◌≡◌, refl, sym, ap, ap₂, ◌∙◌}
 use mathlib.Core.Logic.{◌↔◌, ◌⊎◌, ⊎_elim, dite}
 use mathlib.Core.Bool.{Bool, true, false}
@@ -43,7 +44,7 @@ use Rattle.repair.proofs.Naming.{Fitting, fitting, one_change, value_below}
 use Rattle.repaired.specs.Damage.{Open, Intact, Repairable, at, OnlyThere}
 use Rattle.repaired.proofs.Restoring.{Restored, one_damaged, more_beyond, another}
 
-module _ (h : Header) (image map : List ℕ) (k : ℕ) (o : Open h image map k) where
+module _ (h : Header) (image map : List ℕ) (k : ℕ) (o : Ok h image map k) where
   abbrev page : List ℕ
   page = page_at h.page.count image k
 

@@ -1,4 +1,5 @@
 -- A page of a backup that may be repaired, the page that its entry was made of, and what a change of one symbol leaves alone.
+use Rattle.std.specs.Prelude.{Ok}
 use Rattle.std.specs.Prelude.{◌≡◌, ◌⊎◌, true, List, ℕ, ◌+◌, ◌*◌, ◌≤◌, ◌<◌, length, get_or}
 use Rattle.signature.specs.Kinds.{wide}
 use Rattle.signature.specs.Objects.{Octets, symbols}
@@ -7,13 +8,12 @@ use Rattle.map.specs.Buckets.{page_at}
 use Rattle.map.specs.Files.{pages}
 use Rattle.map.specs.Reading.{reading, entry_at}
 use Rattle.map.specs.declared.Header.{Header}
-use Rattle.map.specs.declared.Reading.TheVariants.{Holds}
 use Rattle.repair.specs.Changes.{fits}
 
 -- the map reads, is of the image's length, has page k, and tells a position
-pub record Open (h : Header) (image map : List ℕ) (k : ℕ) : Type 0 where
+pub record Ok (h : Header) (image map : List ℕ) (k : ℕ) : Type 0 where
   pub octets : Octets image
-  pub holds : reading map ≡ Holds h
+  pub holds : reading map ≡ Ok h
   pub long : length image ≡ h.bucket.count
   pub inside : k < pages h
   pub two : 2 ≤ h.n

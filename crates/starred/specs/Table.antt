@@ -1,12 +1,13 @@
 -- The scope's starred numbers, a row each: what the definitions give, and what the scope says.
 use Rattle.std.specs.Prelude.{ℕ, ◌/◌, ◌%◌, List, [], ◌∷◌, take}
-use Rattle.units.specs.declared.Listed.{Listed}
-use Rattle.signature.specs.declared.Answer.{Answer}
-use Rattle.signature.specs.declared.Answer.TheVariants.{Signed, Refused}
+use Rattle.units.specs.Naming.{Listed}
+use Rattle.signature.specs.Operations.{Answer}
 use Rattle.signature.specs.Kinds.{wide}
 use Rattle.signature.specs.Operations.{own, signing, joining, editing}
 use Rattle.caption.specs.Recoding.{encoded, encoding}
 use Rattle.caption.specs.Searches.{Searched, searching}
+use Rattle.std.specs.Prelude.{Ok, Err}
+use Rattle.units.specs.Refusals.{number}
 
 pub record Row : Type 0 where
   pub number : ℕ
@@ -23,16 +24,16 @@ bytes (s ∷ rest) = s % 256 ∷ s / 256 ∷ bytes rest
 
 -- the components that were answered; a refusal has none
 abbrev pub components : Answer → List ℕ
-components (Signed s) = take s.n (s.s1 ∷ s.s2 ∷ s.s3 ∷ s.s4 ∷ [])
-components (Refused r) = []
+components (Ok s) = take s.n (s.s1 ∷ s.s2 ∷ s.s3 ∷ s.s4 ∷ [])
+components (Err r) = []
 
 abbrev pub signed : ℕ → List ℕ → List ℕ
 signed n symbols = components (signing wide n (bytes symbols))
 
 -- the places that were found; a refusal has none
 abbrev pub places_in : Listed → List ℕ → List ℕ
-places_in (Listed.Numbers count) list = take count list
-places_in (Listed.Refused r) list = []
+places_in (Ok count) list = take count list
+places_in (Err r) list = []
 
 -- those of a plain pattern in a code
 abbrev pub searched : List ℕ → List ℕ → List ℕ

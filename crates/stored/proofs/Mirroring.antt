@@ -13,9 +13,7 @@ use borrow.Author.Tests.{not-true, ltb-false}
 use Rattle.units.specs.Counts.{pages_in}
 use Rattle.units.specs.Refusals.{first}
 use Rattle.units.specs.Writing.{written}
-use Rattle.units.specs.declared.Listed.TheVariants.{Numbers}
-use Rattle.units.specs.declared.Verdict.{Verdict}
-use Rattle.units.specs.declared.Verdict.TheVariants.{Allowed}
+use Rattle.units.specs.Refusals.{Verdict}
 use Rattle.units.proofs.Naming.{named_length, named_exactly, named_upward}
 use Rattle.units.proofs.Refusing.{Quiet, allowed_when, not_both}
 use Rattle.units.proofs.Writing.{written_inside, written_after}
@@ -29,7 +27,6 @@ use Rattle.map.specs.Making.{made_entry, made}
 use Rattle.map.specs.Reading.{header_of, reading, entry_at}
 use Rattle.map.specs.declared.Entry.{Entry}
 use Rattle.map.specs.declared.Header.{Header}
-use Rattle.map.specs.declared.Reading.TheVariants.{Holds}
 use Rattle.map.proofs.Contents.{Sized, entry_read}
 use Rattle.map.proofs.Holding.{holds_header, holds_sized, holds_held}
 use Rattle.map.proofs.MadeMaps.{n_most, page_most}
@@ -46,10 +43,12 @@ use Rattle.store.specs.Stores.{Stored, stored_to, list_tests, store_unless, stor
 use Rattle.store.proofs.Answers.{store_allowed}
 use Rattle.stored.specs.Mirrors.{FewDiffer, Mirrored}
 use Rattle.stored.specs.Signing.{Signs, Signed}
+use Rattle.std.specs.Prelude.{Ok}
+use Rattle.units.specs.Refusals.{allowed, number}
 
 -- what a store that was allowed leaves
-module _ (h : Header) (table image map list : List ℕ) (holds : reading map ≡ Holds h) (count : ℕ) (answer : (storing table image map list).answer ≡ Numbers count) where
-  allowed : first (store_tests table image map list) ≡ Allowed
+module _ (h : Header) (table image map list : List ℕ) (holds : reading map ≡ Ok h) (count : ℕ) (answer : (storing table image map list).answer ≡ Ok count) where
+  allowed : first (store_tests table image map list) ≡ allowed
   allowed = store_allowed table image map list count answer
 
   pub store_usable : Usable (length table) (length image) map h
@@ -64,7 +63,7 @@ module _ (h : Header) (table image map list : List ℕ) (holds : reading map ≡
   pub store_counts : count ≡ length (changed h table (entry_at h.n map) (pages h))
   store_counts = number count _ (sym answer ∙ ap (λ (s : Stored). s.answer) store_leaves)
     where
-      number : (a b : ℕ) → Numbers a ≡ Numbers b → a ≡ b
+      number : (a b : ℕ) → Ok a ≡ Ok b → a ≡ b
       number a b e = cc
 
   -- ---- the list: the numbers stand at its start, and past them it is as it was
@@ -199,7 +198,7 @@ module _ (h : Header) (table image map list : List ℕ) (holds : reading map ≡
             count_is = store_counts;
           }
 
-pub store_mirrors : (h : Header) (table image map list : List ℕ) → Octets table → Octets image → Octets map → Signed h image map → FewDiffer h table image
-    → (count : ℕ) → (storing table image map list).answer ≡ Numbers count → Mirrored h table image list count (storing table image map list)
+pub store_mirrors : (h : Header) (table image map list : List ℕ) → Octets table → Octets image → Octets map → Ok h image map → FewDiffer h table image
+    → (count : ℕ) → (storing table image map list).answer ≡ Ok count → Mirrored h table image list count (storing table image map list)
 store_mirrors h table image map list table_octets image-octets map_octets signed few count answer =
     mirrors h table image map list signed.holds count answer map_octets table_octets image-octets signed.signs few

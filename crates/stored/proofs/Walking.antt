@@ -13,16 +13,14 @@ use Rattle.units.specs.Filling.{room}
 use Rattle.units.specs.Naming.{named, told as told_listed}
 use Rattle.units.specs.Refusals.{Test, first, gives, ROOM, PAGENO}
 use Rattle.units.specs.Writing.{written}
-use Rattle.units.specs.declared.Listed.TheVariants.{Numbers}
 use Rattle.units.specs.declared.Refusal.{Refusal}
-use Rattle.units.specs.declared.Verdict.{Verdict}
+use Rattle.units.specs.Refusals.{Verdict}
 use Rattle.units.proofs.Naming.{named_none}
 use Rattle.units.proofs.Refusing.{allowed_not_refused, same_refusal}
 use Rattle.signature.specs.Objects.{Octets}
 use Rattle.map.specs.Files.{pages}
 use Rattle.map.specs.Reading.{header_of, reading, entry_at}
 use Rattle.map.specs.declared.Header.{Header}
-use Rattle.map.specs.declared.Reading.TheVariants.{Holds}
 use Rattle.backup.specs.Backups.{agrees, changed}
 use Rattle.backup.specs.Openings.{map_test, match_test}
 use Rattle.backup.proofs.Opened.{Usable}
@@ -36,6 +34,8 @@ use Rattle.store.proofs.Tags.{page_told}
 use Rattle.store.proofs.Underway.{Ready, Through, Passed, Done, taken, none_through, through_reads, through_length, step_opens}
 use Rattle.stored.specs.Walks.{Walk, Same, written_by, walked, walk_to, outset}
 use Rattle.stored.proofs.Mirroring.{store_usable, store_leaves, store_counts}
+use Rattle.std.specs.Prelude.{Ok}
+use Rattle.units.specs.Refusals.{allowed, refused, number}
 
 module _ (h : Header) (table image map : List ℕ) (ready : Ready h table image map) where
   -- where the walk stands after m steps
@@ -70,7 +70,7 @@ module _ (h : Header) (table image map : List ℕ) (ready : Ready h table image 
               subst (λ (i : ℕ). Through h table image map i (stepping table w.image w.map w.place).image (stepping table w.image w.map w.place).map)
               p.up p.next;
           numbers_are =
-              ap₂ ◌++◌ r.numbers_are (ap written_by p.told ∙ noted (agrees h (entry_at h.n map) table m) m);
+              ap₂ ◌++◌ (number r)s_are (ap written_by p.told ∙ noted (agrees h (entry_at h.n map) table m) m);
         })
         (λ (d : Done ready r.through {s = step} opens). absurd (omega (arith, d.all)))
         (taken ready r.through {s = step} opens)
@@ -82,7 +82,7 @@ module _ (h : Header) (table image map : List ℕ) (ready : Ready h table image 
         (λ (d : Done ready r.through {s = step} opens). d.told)
         (taken ready r.through {s = step} opens)
 
-    allowed : told (stepping table w.image w.map w.place).answer ≡ Verdict.Allowed
+    allowed : told (stepping table w.image w.map w.place).answer ≡ allowed
     allowed =
         ⊎_elim
         (λ (p : Passed ready r.through {s = step} opens). ap told p.told ∙ page_told m (agrees h (entry_at h.n map) table m))
@@ -95,14 +95,14 @@ module _ (h : Header) (table image map : List ℕ) (ready : Ready h table image 
   reached (suc m) most = on m (walked table (outset image map) m) (reached m (omega arith)) (omega arith)
 
 -- a store that is not refused could start
-store_ready : (h : Header) (table image map list : List ℕ) → Octets table → Octets map → reading map ≡ Holds h
-    → (count : ℕ) → (storing table image map list).answer ≡ Numbers count → Ready h table image map
+store_ready : (h : Header) (table image map list : List ℕ) → Octets table → Octets map → reading map ≡ Ok h
+    → (count : ℕ) → (storing table image map list).answer ≡ Ok count → Ready h table image map
 store_ready h table image map list table_octets map_octets holds count answer =
     let u : Usable (length table) (length image) map h = store_usable h table image map list holds count answer in
     record { table_octets = table_octets; map_octets = map_octets; holds = holds; table_length = u.one_fits; image_length = u.other_fits }
 
-pub steps_are_the_store : (h : Header) (table image map list : List ℕ) → Octets table → Octets map → reading map ≡ Holds h
-    → (count : ℕ) → (storing table image map list).answer ≡ Numbers count → Same (walked table (outset image map) (pages h)) table list count (storing table image map list)
+pub steps_are_the_store : (h : Header) (table image map list : List ℕ) → Octets table → Octets map → reading map ≡ Ok h
+    → (count : ℕ) → (storing table image map list).answer ≡ Ok count → Same (walked table (outset image map) (pages h)) table list count (storing table image map list)
 steps_are_the_store h table image map list table_octets map_octets holds count answer =
     let ready : Ready h table image map = store_ready h table image map list table_octets map_octets holds count answer in
     let w : Walk = walked table (outset image map) (pages h) in
@@ -111,39 +111,39 @@ steps_are_the_store h table image map list table_octets map_octets holds count a
     record {
       image_same = r.through.image_is ∙ sym (ap (λ (s : Stored). s.image) left);
       map_same = r.through.map_is ∙ sym (ap (λ (s : Stored). s.map) left);
-      list_same = ap (λ (s : Stored). s.list) left ∙ ap (written list 0) (sym r.numbers_are);
-      count_same = store_counts h table image map list holds count answer ∙ ap length (sym r.numbers_are);
+      list_same = ap (λ (s : Stored). s.list) left ∙ ap (written list 0) (sym (number r)s_are);
+      count_same = store_counts h table image map list holds count answer ∙ ap length (sym (number r)s_are);
       finished = ends h table image map ready (pages h) w r refl;
     }
 
 -- ---- a step that is refused can only be the first, before a byte has changed
 
 -- where the store is not refused, no step up to finished is
-pub no_step_refused : (h : Header) (table image map list : List ℕ) → Octets table → Octets map → reading map ≡ Holds h
-    → (count : ℕ) → (storing table image map list).answer ≡ Numbers count
+pub no_step_refused : (h : Header) (table image map list : List ℕ) → Octets table → Octets map → reading map ≡ Ok h
+    → (count : ℕ) → (storing table image map list).answer ≡ Ok count
     → (m : ℕ) → m ≤ pages h
-    → told (stepping table (walked table (outset image map) m).image (walked table (outset image map) m).map (walked table (outset image map) m).place).answer ≡ Verdict.Allowed
+    → told (stepping table (walked table (outset image map) m).image (walked table (outset image map) m).map (walked table (outset image map) m).place).answer ≡ allowed
 no_step_refused h table image map list table_octets map_octets holds count answer m most =
     let ready : Ready h table image map = store_ready h table image map list table_octets map_octets holds count answer in
     allowed h table image map ready m (walked table (outset image map) m) (reached h table image map ready m most)
 
 -- the third of three tests does not decide
-first_two : (t u v w : Test) (r : Refusal) → first (t ∷ u ∷ v ∷ []) ≡ Verdict.Refused r → (v.refusal ≡ r → ⊥) → first (t ∷ u ∷ w ∷ []) ≡ Verdict.Refused r
+first_two : (t u v w : Test) (r : Refusal) → first (t ∷ u ∷ v ∷ []) ≡ refused r → (v.refusal ≡ r → ⊥) → first (t ∷ u ∷ w ∷ []) ≡ refused r
 first_two t u v w r e other = at t.applies u.applies v.applies refl refl refl
   where
-    at : (a b d : Bool) → t.applies ≡ a → u.applies ≡ b → v.applies ≡ d → first (t ∷ u ∷ w ∷ []) ≡ Verdict.Refused r
+    at : (a b d : Bool) → t.applies ≡ a → u.applies ≡ b → v.applies ≡ d → first (t ∷ u ∷ w ∷ []) ≡ refused r
     at true b d p q z = simp p (simp p at e)
     at false true d p q z = simp (p, q) (simp (p, q) at e)
     at false false true p q z = absurd (other (same_refusal v.refusal r (simp (p, q, z) at e)))
     at false false false p q z = absurd (allowed_not_refused r (simp (p, q, z) at e))
 
 -- and where it is refused for anything but the list's room, the first step is refused with the same
-pub first_step_refused : (table image map list : List ℕ) (r : Refusal) → told_listed (storing table image map list).answer ≡ Verdict.Refused r → (r.number ≡ ROOM → ⊥)
-    → told (stepping table image map (record { page = 0 })).answer ≡ Verdict.Refused r
+pub first_step_refused : (table image map list : List ℕ) (r : Refusal) → told_listed (storing table image map list).answer ≡ refused r → ((number r) ≡ ROOM → ⊥)
+    → told (stepping table image map (record { page = 0 })).answer ≡ refused r
 unfolding stepping
 first_step_refused table image map list r e other =
     let h : Header = header_of map in
-    let why : first (store_tests table image map list) ≡ Verdict.Refused r = sym (store_is table image map list) ∙ e in
+    let why : first (store_tests table image map list) ≡ refused r = sym (store_is table image map list) ∙ e in
     ap (λ (v : Verdict). told (step_unless v h table image map (record { page = 0 })).answer)
-    (first_two (map_test map) (match_test (length table) (length image) h) (room (pages h) list) (gives PAGENO (ltb (pages h) 0)) r why
-    (λ q. other (sym (ap (λ (x : Refusal). x.number) q))))
+    (first_two (map_test map) (match_test (length table) (length image) h) (room (pages h) list) (gives Refusal.PageNo (ltb (pages h) 0)) r why
+    (λ q. other (sym (ap (λ (x : Refusal). number x) q))))

@@ -6,6 +6,7 @@ use Rattle.store.specs.Stores.{Stored}
 use Rattle.store.specs.declared.Answer.{Answer}
 use Rattle.store.specs.declared.Answer.TheVariants.{Kept, Written, Finished, Refused}
 use Rattle.store.specs.declared.Place.{Place}
+use Rattle.std.specs.Prelude.{Err}
 
 pub record Walk : Type 0 where
   pub place : Place
@@ -18,7 +19,7 @@ abbrev pub written_by : Answer → List ℕ
 written_by (Kept k) = []
 written_by (Written k) = k ∷ []
 written_by Finished = []
-written_by (Refused r) = []
+written_by (Err r) = []
 
 abbrev pub walk_to : Walk → Stepped → Walk
 walk_to w s = record { place = s.next; image = s.image; map = s.map; numbers = w.numbers ++ written_by s.answer }

@@ -14,7 +14,7 @@ returns-then-not-stays c =
 
 pub returns : goal.returns
 returns c =
-    let edits : Edits c.args.s c.args.own c.args.page.now c.args.i.count c.args.x c.low_bytes-old.result c.low_bytes-new.result c.edit-edited.result =
+    let edits : Edits c.args.s c.args.own c.args.page.now c.args.i.count c.args.x c.low_bytes-old.result c.low_bytes-new.result c.edit.result =
     record {
       octets = λ k. (c.type_inv.page k).fits;
       tells = c.requires.0;
@@ -23,6 +23,6 @@ returns c =
       stays = sym c.stays.ensures ∙ c.if-not-stays.false;
       old_is = c.low_bytes-old.ensures ∙ ap (low_bytes 2) c.symbol.ensures;
       new_is = c.low_bytes-new.ensures;
-      edited = c.edit-edited.ensures;
+      edited = c.edit.ensures;
     } in
-    c.same.ensures ∙ checked edits _ c.in-Signed.is
+    c.same.ensures ∙ checked edits _ c.in-Ok.is

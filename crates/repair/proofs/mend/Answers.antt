@@ -13,7 +13,7 @@ pub returns-in_default : goal.returns-in_default
 unfolding page_left
 returns-in_default c =
     let page : List ℕ = c.args.page.now in
-    (c.diagnose-repair.ensures, sym (without_change (λ (r : Repair). page_left r page) page refl refl (λ r. refl) c.diagnose-repair.result c.in_default.not-Repaired))
+    (c.diagnose-repair.ensures, sym (without_change (λ (r : Repair). page_left r page) page refl refl c.diagnose-repair.result c.in_default.not-Repaired))
 
 pub put_symbol-requires : goal.put_symbol-requires
 put_symbol-requires c =

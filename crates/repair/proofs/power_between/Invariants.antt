@@ -2,7 +2,7 @@
 -- Assumes nothing.
 use mathlib.Core.Path.{◌≡◌}
 use mathlib.Core.Bool.{Bool}
-use Prim.Native.Nat.{ℕ, ◌+◌}
+use Prim.Native.Nat.{ℕ, ◌-◌}
 use lib.Dec.{eqb}
 use Rattle.units.specs.Naming.{first_named}
 use Rattle.field.specs.Field.{GF16, product, power, α}
@@ -12,10 +12,6 @@ use Rattle.repair.proofs.power_between.Given as goal
 abbrev pub makes : ℕ → ℕ → ℕ → Bool
 makes a b i = eqb (product GF16 a (power GF16 α i)) b
 
-abbrev pub invariant-loop-left : goal.invariant-loop-left
-invariant-loop-left l =
-    (l.x ≡ product GF16 l.a (power GF16 α l.i)) × (first_named (makes l.a l.b) l.left l.i ≡ first_named (makes l.a l.b) l.m 0) × (l.i + l.left ≡ l.m)
-
-abbrev pub decreases-loop-left : goal.decreases-loop-left
-decreases-loop-left l =
-    l.left
+abbrev pub invariant-loop-i : goal.invariant-loop-i
+invariant-loop-i l =
+    (l.x ≡ product GF16 l.a (power GF16 α l.i)) × (first_named (makes l.a l.b) (l.m - l.i) l.i ≡ first_named (makes l.a l.b) l.m 0)

@@ -1,5 +1,6 @@
 -- `repair::repair_on` meets its contract: after its two tests the page is lent, mended, and goes back where it stood.
 -- Assumes nothing.
+use Rattle.std.specs.Prelude.{Ok}
 use mathlib.Core.Path.{◌≡◌, sym, ap, ap₂, ◌∙◌}
 use mathlib.Core.List.{List}
 use Prim.Native.Nat.{ℕ, ◌*◌, ◌≤◌}
@@ -19,7 +20,7 @@ pub returns-then-k-pages : goal.returns-then-k-pages
 returns-then-k-pages c =
     let args : _ = c.args in
     let past : pages args.h ≤ args.k = omega (arith, c.pages.ensures) in
-    ap (λ (r : Repair). outcome_of r args.image.now) c.refused.ensures ∙ sym (open_past args.h args.image.now args.map.now args.k past)
+    sym (open_past args.h args.image.now args.map.now args.k past)
 
 pub slice_bounds-mend-end : goal.slice_bounds-mend-end
 slice_bounds-mend-end c =
@@ -45,7 +46,7 @@ returns c =
     record { holds = c.requires.0; long = c.requires.1; inside = omega (arith, c.pages.ensures, c.if-k-pages.false); is = c.page_at.ensures } in
     let answer : mend.result ≡ mended (entry_at args.h.n args.map.now args.k) (page_at args.h.page.count image args.k) =
     mend.ensures.0 ∙ ap₂ mended c.entry_at-entry.ensures (lent_page lent) in
-    ap (outcome_of mend.result)
+    ap (outcome_of (Ok mend.result))
     (put_back lent mend.new.page mend.auto.page ∙ ap (written image (args.k * args.h.page.count)) (mend.ensures.1 ∙ ap (page_left mend.result) (lent_page lent)))
-    ∙ ap (λ (r : Repair). outcome_of r (image_left args.h r image args.k)) answer
+    ∙ ap (λ (r : Repair). outcome_of (Ok r) (image_left args.h r image args.k)) answer
     ∙ sym (open_mends args.h image args.map.now args.k lent.inside (omega arith))

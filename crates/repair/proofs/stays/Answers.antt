@@ -22,10 +22,10 @@ pub returns-then-page-bytes_of-gt1 : goal.returns-then-page-bytes_of-gt1
 returns-then-page-bytes_of-gt1 c =
     let args : _ = c.args in
     let room : 1 < length args.page.now - args.i.count * 2 = omega (arith, c.bytes_of.ensures) in
-    sym (eq-eqb _ _ (both_bytes args.page.now args.i.count args.x c.requires room (omega arith)))
+    lt-ltb _ _ (omega (arith, c.bytes_of.ensures)) ∙ sym (eq-eqb _ _ (both_bytes args.page.now args.i.count args.x c.requires room (omega arith)))
 
-pub returns : goal.returns
-returns c =
+pub returns-else-page-bytes_of-gt1 : goal.returns-else-page-bytes_of-gt1
+returns-else-page-bytes_of-gt1 c =
     let args : _ = c.args in
     let room : length args.page.now - args.i.count * 2 ≤ 1 = omega (arith, c.bytes_of.ensures) in
     low_only args.x ∙ ap (λ (y : ℕ). eqb y args.x) (sym (low_byte args.page.now args.i.count args.x c.requires room))
