@@ -1,7 +1,8 @@
 -- A page of a backup under repair: what is whole stays, one damaged symbol is restored, more are beyond where n tells them; a repair gives the page
 -- its entry's signature and changes no byte outside one symbol.
 -- Assumes nothing.
-use Rattle.std.specs.Prelude.{Ok}
+use Rattle.std.specs.Prelude.{Result, Ok, Err}
+use Rattle.units.specs.declared.Refusal.{Refusal}
 use mathlib.Core.Path.{◌≡◌, refl, sym, ap, ap₂, ◌∙◌}
 use mathlib.Core.Logic.{◌↔◌, ◌⊎◌, ⊎_elim, dite}
 use mathlib.Core.Bool.{Bool, true, false}
@@ -44,7 +45,12 @@ use Rattle.repair.proofs.Naming.{Fitting, fitting, one_change, value_below}
 use Rattle.repaired.specs.Damage.{Open, Intact, Repairable, at, OnlyThere}
 use Rattle.repaired.proofs.Restoring.{Restored, one_damaged, more_beyond, another}
 
-module _ (h : Header) (image map : List ℕ) (k : ℕ) (o : Ok h image map k) where
+-- what was found by a repair that is not refused
+found : Result Repair Refusal → Repair
+found (Ok answer) = answer
+found (Err r) = Beyond
+
+module _ (h : Header) (image map : List ℕ) (k : ℕ) (o : Open h image map k) where
   abbrev page : List ℕ
   page = page_at h.page.count image k
 
@@ -74,7 +80,7 @@ module _ (h : Header) (image map : List ℕ) (k : ℕ) (o : Ok h image map k) wh
   octets = page_octets h.page.count image k o.octets
 
   -- nothing refuses it: the page's own answer, and the image with the page as that leaves it
-  pub answers : repairing image map k ≡ outcome_of (mended entry page) (image_left h (mended entry page) image k)
+  pub answers : repairing image map k ≡ outcome_of (Ok (mended entry page)) (image_left h (mended entry page) image k)
   unfolding repairing open_repair
   answers =
       let u : Usable (length image) (length image) map h = holds_usable (length image) (length image) map h o.holds o.long o.long in
@@ -118,28 +124,29 @@ module _ (h : Header) (image map : List ℕ) (k : ℕ) (o : Ok h image map k) wh
   back : written image start page ≡ image
   back = ext_get_or 0 (written image start page) image (new_length page refl) (λ b below. byte_stays page refl b (λ i place inside. refl))
 
-  unchanged : (r : Repair) → page_left r page ≡ page → mended entry page ≡ r → repairing image map k ≡ outcome_of r image
+  unchanged : (r : Repair) → page_left r page ≡ page → mended entry page ≡ r → repairing image map k ≡ outcome_of (Ok r) image
   unfolding image_left
   unchanged r left is =
-      answers ∙ ap (λ (a : Repair). outcome_of a (image_left h a image k)) is ∙ ap (outcome_of r) (ap (written image start) left ∙ back)
+      answers ∙ ap (λ (a : Repair). outcome_of (Ok a) (image_left h a image k)) is ∙ ap (outcome_of (Ok r)) (ap (written image start) left ∙ back)
 
   -- ---- a whole page stays
 
-  pub whole_stays : agrees h (entry_at h.n map) image k ≡ true → repairing image map k ≡ outcome_of Whole image
+  pub whole_stays : agrees h (entry_at h.n map) image k ≡ true → repairing image map k ≡ outcome_of (Ok Whole) image
   unfolding agrees page_left entry_at
   whole_stays so = unchanged Whole refl (mended_whole entry page so)
 
   -- ---- what is beyond stays
 
-  pub beyond_stays : (repairing image map k).answer ≡ Beyond → repairing image map k ≡ outcome_of Beyond image
-  unfolding page_left
-  beyond_stays e = unchanged Beyond refl (sym (ap (λ (q : Outcome). q.answer) answers) ∙ e)
+  pub beyond_stays : (repairing image map k).answer ≡ Ok Beyond → repairing image map k ≡ outcome_of (Ok Beyond) image
+  unfolding page_left found
+  beyond_stays e = unchanged Beyond refl (ap found (sym (ap (λ (q : Outcome). q.answer) answers) ∙ e))
 
   -- ---- a repair
 
-  module _ (c : Change) (is : (repairing image map k).answer ≡ Repaired c) where
+  module _ (c : Change) (is : (repairing image map k).answer ≡ Ok (Repaired c)) where
     named : mended entry page ≡ Repaired c
-    named = sym (ap (λ (q : Outcome). q.answer) answers) ∙ is
+    unfolding found
+    named = ap found (sym (ap (λ (q : Outcome). q.answer) answers) ∙ is)
 
     by : ChangeOf entry.signature page c
     by = mended_change entry page c named
@@ -196,7 +203,7 @@ module _ (h : Header) (image map : List ℕ) (k : ℕ) (o : Ok h image map k) wh
 
   -- ---- it repairs exactly when the signature is wrong and a change of one symbol gives the entry's
 
-  pub repairs_exactly : ((c : Change) × ((repairing image map k).answer ≡ Repaired c)) ↔ ((agrees h (entry_at h.n map) image k ≡ false) × Repairable h image map k)
+  pub repairs_exactly : ((c : Change) × ((repairing image map k).answer ≡ Ok (Repaired c))) ↔ ((agrees h (entry_at h.n map) image k ≡ false) × Repairable h image map k)
   unfolding agrees entry_at
   repairs_exactly = (there, back_again)
     where
@@ -204,17 +211,18 @@ module _ (h : Header) (image map : List ℕ) (k : ℕ) (o : Ok h image map k) wh
       wrong true c so e = let z : ◌≡◌ {A = Repair} Whole (Repaired c) = sym (mended_whole entry page so) ∙ e in let no : ◌≡◌ {A = ℕ} 0 1 = cc in absurd (omega arith)
       wrong false c so e = refl
 
-      there : ((c : Change) × ((repairing image map k).answer ≡ Repaired c)) → (agrees h (entry_at h.n map) image k ≡ false) × Repairable h image map k
+      there : ((c : Change) × ((repairing image map k).answer ≡ Ok (Repaired c))) → (agrees h (entry_at h.n map) image k ≡ false) × Repairable h image map k
       there (c, is) = (wrong _ c refl (named c is), (c.position.count, c.new, (by c is).inside, (by c is).fitted))
 
-      back_again : (agrees h (entry_at h.n map) image k ≡ false) × Repairable h image map k → (c : Change) × ((repairing image map k).answer ≡ Repaired c)
+      back_again : (agrees h (entry_at h.n map) image k ≡ false) × Repairable h image map k → (c : Change) × ((repairing image map k).answer ≡ Ok (Repaired c))
       back_again (so, (i, x, inside, e)) =
           let f : Fitting wide entry.signature page i x = fitting wide entry.signature page i x e in (
             change_of h.n page i x,
             ap (λ (q : Outcome). q.answer) answers
-                ∙ mended_else entry page so
+                ∙ ap Ok
+                (mended_else entry page so
                 ∙ put_found entry.signature page i x inside (value_below wide wide_sound entry.signature page octets tells so i x inside f) e
-                (λ j y hj e'. one_change wide wide_sound entry.signature page octets tells so j y i x hj inside e' e),
+                (λ j y hj e'. one_change wide wide_sound entry.signature page octets tells so j y i x hj inside e' e)),
           )
 
   -- and there is only one such change
@@ -228,7 +236,7 @@ module _ (h : Header) (image map : List ℕ) (k : ℕ) (o : Ok h image map k) wh
   module _ (before : List ℕ) (t : Intact h image map k before) where
     -- one damaged symbol is restored, wherever it is
     pub one_restored : differing 2 page before ≡ 1
-        → ((c : Change) × ((repairing image map k).answer ≡ Repaired c)) × (page_at h.page.count (repairing image map k).image k ≡ before)
+        → ((c : Change) × ((repairing image map k).answer ≡ Ok (Repaired c))) × (page_at h.page.count (repairing image map k).image k ≡ before)
     unfolding entry_at
     one_restored one =
         let r : Restored entry.signature page before octets t.octets t.as_long tells t.entry =
@@ -236,11 +244,11 @@ module _ (h : Header) (image map : List ℕ) (k : ℕ) (o : Ok h image map k) wh
         let so : same (own wide h.n page) entry.signature ≡ false =
         another entry.signature page before octets t.octets t.as_long tells t.entry (omega arith) (omega (arith, o.two)) in
         let c : Change = change_of h.n page r.position (symbol 2 before r.position) in
-        let is : (repairing image map k).answer ≡ Repaired c = ap (λ (q : Outcome). q.answer) answers ∙ mended_else entry page so ∙ r.answer in
+        let is : (repairing image map k).answer ≡ Ok (Repaired c) = ap (λ (q : Outcome). q.answer) answers ∙ ap Ok (mended_else entry page so ∙ r.answer) in
         ((c, is), page_after c is ∙ r.page_is)
 
     -- and two or more, fewer than n, are beyond: two with n of 3 or 4
-    pub more_damaged : 2 ≤ differing 2 page before → differing 2 page before < h.n → repairing image map k ≡ outcome_of Beyond image
+    pub more_damaged : 2 ≤ differing 2 page before → differing 2 page before < h.n → repairing image map k ≡ outcome_of (Ok Beyond) image
     unfolding entry_at page_left
     more_damaged some few =
         let so : same (own wide h.n page) entry.signature ≡ false =

@@ -11,7 +11,7 @@ use Rattle.map.specs.declared.Header.{Header}
 use Rattle.repair.specs.Changes.{fits}
 
 -- the map reads, is of the image's length, has page k, and tells a position
-pub record Ok (h : Header) (image map : List ℕ) (k : ℕ) : Type 0 where
+pub record Open (h : Header) (image map : List ℕ) (k : ℕ) : Type 0 where
   pub octets : Octets image
   pub holds : reading map ≡ Ok h
   pub long : length image ≡ h.bucket.count

@@ -7,7 +7,6 @@ use Rattle.signature.specs.Operations.{own, signing, joining, editing}
 use Rattle.caption.specs.Recoding.{encoded, encoding}
 use Rattle.caption.specs.Searches.{Searched, searching}
 use Rattle.std.specs.Prelude.{Ok, Err}
-use Rattle.units.specs.Refusals.{number}
 
 pub record Row : Type 0 where
   pub number : ℕ

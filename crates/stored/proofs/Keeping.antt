@@ -46,7 +46,7 @@ made_signs n page bucket k = refl
 
 -- ---- a map holds the image's signatures exactly when it is the one made from the image
 
-pub made_signed : (n page : ℕ) (image : List ℕ) → Octets image → Sized (made_header n page image) → Ok (made_header n page image) image (made n page image)
+pub made_signed : (n page : ℕ) (image : List ℕ) → Octets image → Sized (made_header n page image) → Signed (made_header n page image) image (made n page image)
 made_signed n page image octets sized =
     record {
       holds = made_reads n page image [] octets sized;
@@ -54,7 +54,7 @@ made_signed n page image octets sized =
       signs = λ k inside. ap (λ (e : Entry). e.signature) (made_entry_reads n page image [] octets sized k inside) ∙ made_signs n page image k;
     }
 
-pub signed_made : (h : Header) (image map : List ℕ) → Octets map → Ok h image map → map ≡ made h.n h.page.count image
+pub signed_made : (h : Header) (image map : List ℕ) → Octets map → Signed h image map → map ≡ made h.n h.page.count image
 unfolding made made_entry
 signed_made h image map octets signed =
     sym (file_of_reading map octets h signed.holds)
@@ -88,7 +88,7 @@ module _ (h : Header) (some : 0 < h.page.count) (table : List ℕ) (b : Backup) 
 
 -- ---- image and map
 
-module _ (h : Header) (table image map : List ℕ) (table_octets : Octets table) (map_octets : Octets map) (signed : Ok h image map) where
+module _ (h : Header) (table image map : List ℕ) (table_octets : Octets table) (map_octets : Octets map) (signed : Signed h image map) where
   sized : Sized h
   sized = holds_sized map h signed.holds
 
@@ -96,7 +96,7 @@ module _ (h : Header) (table image map : List ℕ) (table_octets : Octets table)
   held = holds_held map h signed.holds map_octets
 
   -- what a backup holds, in its file
-  filed : (b : Backup) → AllHeld h b.entry → length b.image ≡ h.bucket.count → Signs h b.image b.entry → Ok h b.image (file h b.entry)
+  filed : (b : Backup) → AllHeld h b.entry → length b.image ≡ h.bucket.count → Signs h b.image b.entry → Signed h b.image (file h b.entry)
   filed b good long signs =
       record {
         holds = file_read h b.entry sized good;
@@ -105,7 +105,7 @@ module _ (h : Header) (table image map : List ℕ) (table_octets : Octets table)
       }
 
   module _ (table_length : length table ≡ h.bucket.count) where
-    passing_signed : (k : ℕ) → k < pages h → Ok h (passing h table image map k).image (passing h table image map k).map
+    passing_signed : (k : ℕ) → k < pages h → Signed h (passing h table image map k).image (passing h table image map k).map
     unfolding passing
     passing_signed k inside =
         let b : Backup = backup_in h.n image map in
@@ -120,7 +120,7 @@ module _ (h : Header) (table image map : List ℕ) (table_octets : Octets table)
         (page_signs h (some_page h sized) table (stored h table (backup_in h.n image map) m) m table_length
         (all_length h table (backup_in h.n image map) (some_page h sized) table_length signed.long m (omega arith)) (omega arith) (pages_signed m (omega arith)))
 
-    stored_signed : Ok h (stored h table (backup_in h.n image map) (pages h)).image (file h (stored h table (backup_in h.n image map) (pages h)).entry)
+    stored_signed : Signed h (stored h table (backup_in h.n image map) (pages h)).image (file h (stored h table (backup_in h.n image map) (pages h)).entry)
     stored_signed =
         filed (stored h table (backup_in h.n image map) (pages h)) (all_held h table (backup_in h.n image map) table_octets held (pages h))
         (all_length h table (backup_in h.n image map) (some_page h sized) table_length signed.long (pages h) (le_refl (pages h)))
@@ -128,23 +128,23 @@ module _ (h : Header) (table image map : List ℕ) (table_octets : Octets table)
 
   -- ---- any step
 
-  pub step_signed : (place : Place) → Ok h (stepping table image map place).image (stepping table image map place).map
+  pub step_signed : (place : Place) → Signed h (stepping table image map place).image (stepping table image map place).map
   unfolding stepping
   step_signed place =
-      subst (λ (g : Header). Ok h (step_unless (first (step_tests table image map place.page)) g table image map place).image
+      subst (λ (g : Header). Signed h (step_unless (first (step_tests table image map place.page)) g table image map place).image
       (step_unless (first (step_tests table image map place.page)) g table image map place).map) (sym (holds_header map h signed.holds))
       (at (first (step_tests table image map place.page)) refl)
     where
       here : (t : Bool) → eqb place.page (pages h) ≡ t → length table ≡ h.bucket.count → place.page ≤ pages h
-          → Ok h (cond t (staying Finished place image map) (passing h table image map place.page)).image
-          (cond t (staying Finished place image map) (passing h table image map place.page)).map
+          → Signed h (cond t (staying (Ok Finished) place image map) (passing h table image map place.page)).image
+          (cond t (staying (Ok Finished) place image map) (passing h table image map place.page)).map
       here true e long within = signed
       here false e long within =
           let apart : place.page ≡ pages h → ⊥ = eqb-false _ _ e in
           passing_signed long place.page (omega arith)
 
       at : (v : Verdict) → first (step_tests table image map place.page) ≡ v
-          → Ok h (step_unless v h table image map place).image (step_unless v h table image map place).map
+          → Signed h (step_unless v h table image map place).image (step_unless v h table image map place).map
       at (Err r) e = signed
       at (Ok _) e =
           let g : header_of map ≡ h = holds_header map h signed.holds in
@@ -155,15 +155,15 @@ module _ (h : Header) (table image map : List ℕ) (table_octets : Octets table)
 
   -- ---- any store
 
-  pub store_signed : (list : List ℕ) → Ok h (storing table image map list).image (storing table image map list).map
+  pub store_signed : (list : List ℕ) → Signed h (storing table image map list).image (storing table image map list).map
   unfolding storing
   store_signed list =
-      subst (λ (g : Header). Ok h (store_unless (first (store_tests table image map list)) g table image map list).image
+      subst (λ (g : Header). Signed h (store_unless (first (store_tests table image map list)) g table image map list).image
       (store_unless (first (store_tests table image map list)) g table image map list).map) (sym (holds_header map h signed.holds))
       (at (first (store_tests table image map list)) refl)
     where
       at : (v : Verdict) → first (store_tests table image map list) ≡ v
-          → Ok h (store_unless v h table image map list).image (store_unless v h table image map list).map
+          → Signed h (store_unless v h table image map list).image (store_unless v h table image map list).map
       at (Err r) e = signed
       at (Ok _) e =
           let u : Usable (length table) (length image) map (header_of map) = quiet_usable (length table) (length image) map (λ x. list_tests x list) e in

@@ -43,34 +43,36 @@ use Rattle.store.specs.Stores.{Stored, stored_to, list_tests, store_unless, stor
 use Rattle.store.proofs.Answers.{store_allowed}
 use Rattle.stored.specs.Mirrors.{FewDiffer, Mirrored}
 use Rattle.stored.specs.Signing.{Signs, Signed}
-use Rattle.std.specs.Prelude.{Ok}
-use Rattle.units.specs.Refusals.{allowed, number}
+use Rattle.std.specs.Prelude.{Ok, Err}
+use Rattle.units.specs.Refusals.{allowed}
+use Rattle.units.specs.Naming.{Listed}
 
 -- what a store that was allowed leaves
 module _ (h : Header) (table image map list : List ℕ) (holds : reading map ≡ Ok h) (count : ℕ) (answer : (storing table image map list).answer ≡ Ok count) where
-  allowed : first (store_tests table image map list) ≡ allowed
-  allowed = store_allowed table image map list count answer
+  passes : first (store_tests table image map list) ≡ allowed
+  passes = store_allowed table image map list count answer
 
   pub store_usable : Usable (length table) (length image) map h
   store_usable =
-      subst (Usable (length table) (length image) map) (holds_header map h holds) (quiet_usable (length table) (length image) map (λ g. list_tests g list) allowed)
+      subst (Usable (length table) (length image) map) (holds_header map h holds) (quiet_usable (length table) (length image) map (λ g. list_tests g list) passes)
 
   pub store_leaves : storing table image map list
       ≡ stored_to h (stored h table (backup_in h.n image map) (pages h)) (changed h table (entry_at h.n map) (pages h)) list
   unfolding storing
-  store_leaves = ap₂ (λ (v : Verdict) (g : Header). store_unless v g table image map list) allowed (holds_header map h holds)
+  store_leaves = ap₂ (λ (v : Verdict) (g : Header). store_unless v g table image map list) passes (holds_header map h holds)
 
   pub store_counts : count ≡ length (changed h table (entry_at h.n map) (pages h))
-  store_counts = number count _ (sym answer ∙ ap (λ (s : Stored). s.answer) store_leaves)
+  store_counts = ap count_in (sym answer ∙ ap (λ (s : Stored). s.answer) store_leaves)
     where
-      number : (a b : ℕ) → Ok a ≡ Ok b → a ≡ b
-      number a b e = cc
+      count_in : Listed → ℕ
+      count_in (Ok k) = k
+      count_in (Err r) = 0
 
   -- ---- the list: the numbers stand at its start, and past them it is as it was
 
   numbers_fit : 0 + length (changed h table (entry_at h.n map) (pages h)) ≤ length list
   numbers_fit =
-      let q : Quiet (store_tests table image map list) = (allowed_when (store_tests table image map list)).0 allowed in
+      let q : Quiet (store_tests table image map list) = (allowed_when (store_tests table image map list)).0 passes in
       let room : pages (header_of map) ≤ length list = ltb-false _ _ q.1.1.0 in
       let enough : pages h ≤ length list = subst (λ (g : Header). pages g ≤ length list) (holds_header map h holds) room in
       omega (arith, named_length (λ i. not (agrees h (entry_at h.n map) table i)) (pages h))
@@ -198,7 +200,7 @@ module _ (h : Header) (table image map list : List ℕ) (holds : reading map ≡
             count_is = store_counts;
           }
 
-pub store_mirrors : (h : Header) (table image map list : List ℕ) → Octets table → Octets image → Octets map → Ok h image map → FewDiffer h table image
+pub store_mirrors : (h : Header) (table image map list : List ℕ) → Octets table → Octets image → Octets map → Signed h image map → FewDiffer h table image
     → (count : ℕ) → (storing table image map list).answer ≡ Ok count → Mirrored h table image list count (storing table image map list)
 store_mirrors h table image map list table_octets image-octets map_octets signed few count answer =
     mirrors h table image map list signed.holds count answer map_octets table_octets image-octets signed.signs few

@@ -11,7 +11,7 @@ use lib.Dec.{ltb}
 use lib.ListN.{length}
 use Rattle.units.specs.Filling.{room}
 use Rattle.units.specs.Naming.{named, told as told_listed}
-use Rattle.units.specs.Refusals.{Test, first, gives, ROOM, PAGENO}
+use Rattle.units.specs.Refusals.{Test, first, gives, ROOM}
 use Rattle.units.specs.Writing.{written}
 use Rattle.units.specs.declared.Refusal.{Refusal}
 use Rattle.units.specs.Refusals.{Verdict}
@@ -30,7 +30,6 @@ use Rattle.store.specs.declared.Answer.TheVariants.{Finished}
 use Rattle.store.specs.declared.Place.{Place}
 use Rattle.store.specs.declared.Step.{Step}
 use Rattle.store.proofs.Answers.{store_is}
-use Rattle.store.proofs.Tags.{page_told}
 use Rattle.store.proofs.Underway.{Ready, Through, Passed, Done, taken, none_through, through_reads, through_length, step_opens}
 use Rattle.stored.specs.Walks.{Walk, Same, written_by, walked, walk_to, outset}
 use Rattle.stored.proofs.Mirroring.{store_usable, store_leaves, store_counts}
@@ -44,7 +43,7 @@ module _ (h : Header) (table image map : List ℕ) (ready : Ready h table image 
     through : Through h table image map m w.image w.map
     numbers_are : w.numbers ≡ changed h table (entry_at h.n map) m
 
-  noted : (t : Bool) (m : ℕ) → written_by (page_answer m t) ≡ cond (not t) (m ∷ []) []
+  noted : (t : Bool) (m : ℕ) → written_by (Ok (page_answer m t)) ≡ cond (not t) (m ∷ []) []
   noted true m = refl
   noted false m = refl
 
@@ -70,22 +69,22 @@ module _ (h : Header) (table image map : List ℕ) (ready : Ready h table image 
               subst (λ (i : ℕ). Through h table image map i (stepping table w.image w.map w.place).image (stepping table w.image w.map w.place).map)
               p.up p.next;
           numbers_are =
-              ap₂ ◌++◌ (number r)s_are (ap written_by p.told ∙ noted (agrees h (entry_at h.n map) table m) m);
+              ap₂ ◌++◌ r.numbers_are (ap written_by p.told ∙ noted (agrees h (entry_at h.n map) table m) m);
         })
         (λ (d : Done ready r.through {s = step} opens). absurd (omega (arith, d.all)))
         (taken ready r.through {s = step} opens)
 
-    ends : m ≡ pages h → (stepping table w.image w.map w.place).answer ≡ Finished
+    ends : m ≡ pages h → (stepping table w.image w.map w.place).answer ≡ Ok Finished
     ends all =
         ⊎_elim
         (λ (p : Passed ready r.through {s = step} opens). absurd (omega (arith, p.inside)))
         (λ (d : Done ready r.through {s = step} opens). d.told)
         (taken ready r.through {s = step} opens)
 
-    allowed : told (stepping table w.image w.map w.place).answer ≡ allowed
-    allowed =
+    goes_on : told (stepping table w.image w.map w.place).answer ≡ allowed
+    goes_on =
         ⊎_elim
-        (λ (p : Passed ready r.through {s = step} opens). ap told p.told ∙ page_told m (agrees h (entry_at h.n map) table m))
+        (λ (p : Passed ready r.through {s = step} opens). ap told p.told)
         (λ (d : Done ready r.through {s = step} opens). ap told d.told)
         (taken ready r.through {s = step} opens)
 
@@ -111,8 +110,8 @@ steps_are_the_store h table image map list table_octets map_octets holds count a
     record {
       image_same = r.through.image_is ∙ sym (ap (λ (s : Stored). s.image) left);
       map_same = r.through.map_is ∙ sym (ap (λ (s : Stored). s.map) left);
-      list_same = ap (λ (s : Stored). s.list) left ∙ ap (written list 0) (sym (number r)s_are);
-      count_same = store_counts h table image map list holds count answer ∙ ap length (sym (number r)s_are);
+      list_same = ap (λ (s : Stored). s.list) left ∙ ap (written list 0) (sym r.numbers_are);
+      count_same = store_counts h table image map list holds count answer ∙ ap length (sym r.numbers_are);
       finished = ends h table image map ready (pages h) w r refl;
     }
 
@@ -125,7 +124,7 @@ pub no_step_refused : (h : Header) (table image map list : List ℕ) → Octets 
     → told (stepping table (walked table (outset image map) m).image (walked table (outset image map) m).map (walked table (outset image map) m).place).answer ≡ allowed
 no_step_refused h table image map list table_octets map_octets holds count answer m most =
     let ready : Ready h table image map = store_ready h table image map list table_octets map_octets holds count answer in
-    allowed h table image map ready m (walked table (outset image map) m) (reached h table image map ready m most)
+    goes_on h table image map ready m (walked table (outset image map) m) (reached h table image map ready m most)
 
 -- the third of three tests does not decide
 first_two : (t u v w : Test) (r : Refusal) → first (t ∷ u ∷ v ∷ []) ≡ refused r → (v.refusal ≡ r → ⊥) → first (t ∷ u ∷ w ∷ []) ≡ refused r

@@ -14,7 +14,7 @@ abbrev pub Signs : Header → List ℕ → (ℕ → Entry) → Type 0
 Signs h image entry = (k : ℕ) → k < pages h → (entry k).signature ≡ own wide h.n (page_at h.page.count image k)
 
 -- the map reads, is of the image's length, and its entries have the signatures of the image's pages
-pub record Ok (h : Header) (image map : List ℕ) : Type 0 where
+pub record Signed (h : Header) (image map : List ℕ) : Type 0 where
   pub holds : reading map ≡ Ok h
   pub long : length image ≡ h.bucket.count
   pub signs : Signs h image (entry_at h.n map)

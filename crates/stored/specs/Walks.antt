@@ -1,12 +1,12 @@
 -- A store taken a page at a time: the place that a step hands back is handed in to the next.
-use Rattle.std.specs.Prelude.{List, [], ◌∷◌, ◌++◌, ◌≡◌, ℕ, zero, suc, length}
+use Rattle.std.specs.Prelude.{List, [], ◌∷◌, ◌++◌, ◌≡◌, ℕ, zero, suc, length, Result, Ok, Err}
 use Rattle.units.specs.Writing.{written}
+use Rattle.units.specs.declared.Refusal.{Refusal}
 use Rattle.store.specs.Steps.{Stepped, stepping}
 use Rattle.store.specs.Stores.{Stored}
 use Rattle.store.specs.declared.Answer.{Answer}
-use Rattle.store.specs.declared.Answer.TheVariants.{Kept, Written, Finished, Refused}
+use Rattle.store.specs.declared.Answer.TheVariants.{Kept, Written, Finished}
 use Rattle.store.specs.declared.Place.{Place}
-use Rattle.std.specs.Prelude.{Err}
 
 pub record Walk : Type 0 where
   pub place : Place
@@ -15,10 +15,10 @@ pub record Walk : Type 0 where
   -- of the pages that were written
   pub numbers : List ℕ
 
-abbrev pub written_by : Answer → List ℕ
-written_by (Kept k) = []
-written_by (Written k) = k ∷ []
-written_by Finished = []
+abbrev pub written_by : Result Answer Refusal → List ℕ
+written_by (Ok (Kept k)) = []
+written_by (Ok (Written k)) = k ∷ []
+written_by (Ok Finished) = []
 written_by (Err r) = []
 
 abbrev pub walk_to : Walk → Stepped → Walk
@@ -38,4 +38,4 @@ pub record Same (w : Walk) (table list : List ℕ) (count : ℕ) (whole : Stored
   pub map_same : w.map ≡ whole.map
   pub list_same : whole.list ≡ written list 0 w.numbers
   pub count_same : count ≡ length w.numbers
-  pub finished : (stepping table w.image w.map w.place).answer ≡ Finished
+  pub finished : (stepping table w.image w.map w.place).answer ≡ Ok Finished
