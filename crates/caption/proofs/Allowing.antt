@@ -13,9 +13,7 @@ use Rattle.units.specs.Refusals.{first}
 use Rattle.units.specs.Filling.{outcome, outcome_of}
 use Rattle.units.specs.Writing.{written}
 use Rattle.units.specs.declared.Refusal.{Refusal}
-use Rattle.units.specs.declared.Verdict.{Verdict}
-use Rattle.units.specs.declared.Verdict.TheVariants.{Allowed, Refused}
-use Rattle.units.specs.declared.Filled.TheVariants as Filled
+use Rattle.units.specs.Refusals.{Verdict}
 use Rattle.units.proofs.Refusing.{allowed_when}
 use Rattle.signature.specs.Objects.{symbols}
 use Rattle.signature.specs.Kinds.{wide}
@@ -23,6 +21,8 @@ use Rattle.signature.specs.Operations.{whole}
 use Rattle.caption.specs.Codes.{places}
 use Rattle.caption.specs.Recoding.{recode_tests, recoding}
 use Rattle.caption.specs.Searches.{places_for, search_tests}
+use Rattle.std.specs.Prelude.{Ok, Err}
+use Rattle.units.specs.Refusals.{allowed, refused}
 
 -- a field of whole symbols, not too many, and room for as many bytes
 pub record Recodable (caption output : List ℕ) : Type 0 where
@@ -30,7 +30,7 @@ pub record Recodable (caption output : List ℕ) : Type 0 where
   pub even : length caption % 2 ≡ 0
   pub fits : length caption ≤ length output
 
-pub recodable : (caption output : List ℕ) → first (recode_tests caption output) ≡ Allowed → Recodable caption output
+pub recodable : (caption output : List ℕ) → first (recode_tests caption output) ≡ allowed → Recodable caption output
 recodable caption output allowed =
     let quiet : _ = (allowed_when (recode_tests caption output)).0 allowed in
     record {
@@ -39,18 +39,18 @@ recodable caption output allowed =
       fits = ltb-false _ _ quiet.1.1.0;
     }
 
-pub recode_allowed : (caption output : List ℕ) → Recodable caption output → first (recode_tests caption output) ≡ Allowed
+pub recode_allowed : (caption output : List ℕ) → Recodable caption output → first (recode_tests caption output) ≡ allowed
 recode_allowed caption output r = simp (le-leb _ _ r.short, eq-eqb _ _ r.even, le-ltb _ _ r.fits)
 
 -- what encode and decode answer and leave, from what their tests said
 
-pub recoded : (new caption output after : List ℕ) → first (recode_tests caption output) ≡ Allowed → after ≡ written output 0 new
-    → outcome_of (Filled.Written (record { count = length caption })) after ≡ recoding new caption output
+pub recoded : (new caption output after : List ℕ) → first (recode_tests caption output) ≡ allowed → after ≡ written output 0 new
+    → outcome_of (Ok (record { count = length caption })) after ≡ recoding new caption output
 recoded new caption output after allowed is =
-    ap (outcome_of (Filled.Written (record { count = length caption }))) is ∙ sym (ap (λ (v : Verdict). outcome v (length caption) new output) allowed)
+    ap (outcome_of (Ok (record { count = length caption }))) is ∙ sym (ap (λ (v : Verdict). outcome v (length caption) new output) allowed)
 
-pub not_recoded : (new caption output : List ℕ) (r : Refusal) → first (recode_tests caption output) ≡ Refused r
-    → outcome_of (Filled.Refused r) output ≡ recoding new caption output
+pub not_recoded : (new caption output : List ℕ) (r : Refusal) → first (recode_tests caption output) ≡ refused r
+    → outcome_of (Err r) output ≡ recoding new caption output
 not_recoded new caption output r refused = sym (ap (λ (v : Verdict). outcome v (length caption) new output) refused)
 
 -- a field and a pattern of whole symbols, the field of not too many and the pattern of some, and room for every place
@@ -61,7 +61,7 @@ pub record Searchable (caption pattern list : List ℕ) : Type 0 where
   pub fits : places_for caption pattern ≤ length list
   pub some : symbols 2 pattern ≢ 0
 
-pub searchable : (caption pattern list : List ℕ) → first (search_tests caption pattern list) ≡ Allowed → Searchable caption pattern list
+pub searchable : (caption pattern list : List ℕ) → first (search_tests caption pattern list) ≡ allowed → Searchable caption pattern list
 searchable caption pattern list allowed =
     let quiet : _ = (allowed_when (search_tests caption pattern list)).0 allowed in
     let wholes : _ = (and-eq-true_iff (whole wide caption) (whole wide pattern)).0 (not-false _ quiet.1.0) in
@@ -73,7 +73,7 @@ searchable caption pattern list allowed =
       some = eqb-false _ _ quiet.1.1.1.0;
     }
 
-pub search_allowed : (caption pattern list : List ℕ) → Searchable caption pattern list → first (search_tests caption pattern list) ≡ Allowed
+pub search_allowed : (caption pattern list : List ℕ) → Searchable caption pattern list → first (search_tests caption pattern list) ≡ allowed
 search_allowed caption pattern list s =
     simp (le-leb _ _ s.short, eq-eqb _ _ s.even, eq-eqb _ _ s.pattern_even, le-ltb _ _ s.fits, ne_eqb _ _ s.some)
 

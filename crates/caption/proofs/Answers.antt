@@ -14,10 +14,10 @@ use Rattle.units.specs.Refusals.{first}
 use Rattle.units.specs.Filling.{outcome, told}
 use Rattle.units.specs.Naming.{told as told_listed}
 use Rattle.units.specs.Writing.{written}
-use Rattle.units.specs.declared.Filled.{Filled}
-use Rattle.units.specs.declared.Listed.{Listed}
+use Rattle.units.specs.Filling.{Filled}
+use Rattle.units.specs.Naming.{Listed}
 use Rattle.units.specs.declared.Refusal.{Refusal}
-use Rattle.units.specs.declared.Verdict.{Verdict}
+use Rattle.units.specs.Refusals.{Verdict}
 use Rattle.units.proofs.Filling.{filling_refused, filling_refused_keeps, filling_puts, filling_keeps_after}
 use Rattle.units.proofs.Naming.{named_none}
 use Rattle.units.proofs.Refusing.{Lowest, told_lowest}
@@ -31,6 +31,8 @@ use Rattle.caption.proofs.Finding.{found_few}
 use Rattle.caption.proofs.encode.Reads as Encode
 use Rattle.caption.proofs.decode.Reads as Decode
 use Rattle.caption.proofs.search.Reads as Search
+use Rattle.std.specs.Prelude.{Ok, Err}
+use Rattle.units.specs.Refusals.{refused}
 
 -- ---- no second answer, and nothing else left in what is lent
 
@@ -46,24 +48,24 @@ search_one_answer κs a r s x y p q = let same : _ = p ∙ sym q in (ap (λ o. o
 -- ---- encode and decode, with the field's new form
 
 module _ (new caption output : List ℕ) where
-  pub recode_refused : (r : Refusal) → (told (recoding new caption output).answer ≡ Verdict.Refused r) ↔ Lowest (recode_tests caption output) r
+  pub recode_refused : (r : Refusal) → (told (recoding new caption output).answer ≡ refused r) ↔ Lowest (recode_tests caption output) r
   recode_refused = filling_refused (length caption) new output (recode_tests caption output) tt
 
-  pub recode_refused_keeps : (r : Refusal) → told (recoding new caption output).answer ≡ Verdict.Refused r → (recoding new caption output).output ≡ output
+  pub recode_refused_keeps : (r : Refusal) → told (recoding new caption output).answer ≡ refused r → (recoding new caption output).output ≡ output
   recode_refused_keeps = filling_refused_keeps (length caption) new output (recode_tests caption output)
 
   -- the edges: a field of 65,537 bytes, and one of 65,535
-  pub recode_long : 65537 ≤ length caption → (recoding new caption output).answer ≡ Filled.Refused (record { number = 3; value = 0 })
+  pub recode_long : 65537 ≤ length caption → (recoding new caption output).answer ≡ Err Refusal.Long
   recode_long long = let beyond : 32768 < symbols 2 caption = omega arith in simp (lt-leb _ _ beyond)
 
-  pub recode_odd : length caption ≤ 65535 → length caption % 2 ≡ 1 → (recoding new caption output).answer ≡ Filled.Refused (record { number = 4; value = 0 })
+  pub recode_odd : length caption ≤ 65535 → length caption % 2 ≡ 1 → (recoding new caption output).answer ≡ Err Refusal.Odd
   recode_odd short odd =
       let within : symbols 2 caption ≤ 32768 = omega arith in
       let part : length caption % 2 ≡ 0 → ⊥ = λ even. omega arith in
       simp (le-leb _ _ within, ne_eqb _ _ part)
 
   module _ (r : Recodable caption output) where
-    pub recode_answers : (recoding new caption output).answer ≡ Filled.Written (record { count = length caption })
+    pub recode_answers : (recoding new caption output).answer ≡ Ok (record { count = length caption })
     recode_answers = ap (λ (v : Verdict). (outcome v (length caption) new output).answer) (recode_allowed caption output r)
 
     module _ (as_long : length new ≡ length caption) where
@@ -107,27 +109,27 @@ module _ (e : ℕ) (caption output again : List ℕ) (octets : Octets caption) (
 
 module _ (e : ℕ) (caption pattern list : List ℕ) where
   search_told : (v : Verdict) → told_listed (search_unless v (found e caption pattern) list).answer ≡ v
-  search_told Verdict.Allowed = refl
-  search_told (Verdict.Refused r) = refl
+  search_told (Ok _) = refl
+  search_told (Err r) = refl
 
   search_is : told_listed (searching e caption pattern list).answer ≡ first (search_tests caption pattern list)
   search_is = search_told (first (search_tests caption pattern list))
 
-  pub search_refused : (r : Refusal) → (told_listed (searching e caption pattern list).answer ≡ Verdict.Refused r) ↔ Lowest (search_tests caption pattern list) r
+  pub search_refused : (r : Refusal) → (told_listed (searching e caption pattern list).answer ≡ refused r) ↔ Lowest (search_tests caption pattern list) r
   search_refused r = told_lowest _ (search_tests caption pattern list) search_is tt r
 
-  pub search_refused_keeps : (r : Refusal) → told_listed (searching e caption pattern list).answer ≡ Verdict.Refused r → (searching e caption pattern list).list ≡ list
+  pub search_refused_keeps : (r : Refusal) → told_listed (searching e caption pattern list).answer ≡ refused r → (searching e caption pattern list).list ≡ list
   search_refused_keeps r p = ap (λ (v : Verdict). (search_unless v (found e caption pattern) list).list) (sym search_is ∙ p)
 
   module _ (s : Searchable caption pattern list) where
-    search_leaves : searching e caption pattern list ≡ searched_of (Listed.Numbers (length (found e caption pattern))) (written list 0 (found e caption pattern))
+    search_leaves : searching e caption pattern list ≡ searched_of (Ok (length (found e caption pattern))) (written list 0 (found e caption pattern))
     search_leaves = ap (λ (v : Verdict). search_unless v (found e caption pattern) list) (search_allowed caption pattern list s)
 
     places_fit : 0 + length (found e caption pattern) ≤ length list
     places_fit = omega (arith, found_few e caption pattern, s.fits)
 
     -- the count is that of the places, which stand at the list's start
-    pub search_counts : (searching e caption pattern list).answer ≡ Listed.Numbers (length (found e caption pattern))
+    pub search_counts : (searching e caption pattern list).answer ≡ Ok (length (found e caption pattern))
     search_counts = ap (λ (o : Searched). o.answer) search_leaves
 
     pub search_lists : take (length (found e caption pattern)) (searching e caption pattern list).list ≡ found e caption pattern
@@ -143,10 +145,10 @@ module _ (e : ℕ) (caption pattern list : List ℕ) where
         ∙ ap (λ (n : ℕ). drop n list) end
 
     -- a pattern longer than the field has no hits, however long it is, and needs no list
-    pub search_longer : symbols 2 caption < symbols 2 pattern → searching e caption pattern list ≡ searched_of (Listed.Numbers 0) list
+    pub search_longer : symbols 2 caption < symbols 2 pattern → searching e caption pattern list ≡ searched_of (Ok 0) list
     unfolding found
     search_longer longer =
         let none : found e caption pattern ≡ [] =
         simp (lt-leb _ _ longer, and-false) (named_none _) in
-        search_leaves ∙ ap (λ (l : List ℕ). searched_of (Listed.Numbers (length l)) (written list 0 l)) none
-        ∙ ap (searched_of (Listed.Numbers 0)) (written_none list 0 (omega arith))
+        search_leaves ∙ ap (λ (l : List ℕ). searched_of (Ok (length l)) (written list 0 l)) none
+        ∙ ap (searched_of (Ok 0)) (written_none list 0 (omega arith))

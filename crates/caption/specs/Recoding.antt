@@ -1,7 +1,7 @@
 -- What encode and decode answer and leave in the output, for every input.
 use Rattle.std.specs.Prelude.{Bool, not, List, [], ◌∷◌, ℕ, length}
 use Rattle.units.specs.Sizes.{caption_allowed}
-use Rattle.units.specs.Refusals.{Test, gives, LONG, ODD}
+use Rattle.units.specs.Refusals.{Test, gives}
 use Rattle.units.specs.Runs.{end_to_end}
 use Rattle.units.specs.Filling.{Outcome, filling, room}
 use Rattle.field.specs.Field.{GF16}
@@ -9,6 +9,7 @@ use Rattle.signature.specs.Objects.{low_bytes, symbol, symbols}
 use Rattle.signature.specs.Kinds.{wide}
 use Rattle.signature.specs.Operations.{whole}
 use Rattle.caption.specs.Codes.{coded, plain}
+use Rattle.units.specs.declared.Refusal.{Refusal}
 
 -- m symbols s 0, s 1, .. as bytes
 abbrev pub bytes : ℕ → (ℕ → ℕ) → List ℕ
@@ -24,7 +25,7 @@ abbrev pub too_long : List ℕ → Bool
 too_long caption = not (caption_allowed (symbols 2 caption))
 
 abbrev pub recode_tests : List ℕ → List ℕ → List Test
-recode_tests caption output = gives LONG (too_long caption) ∷ gives ODD (not (whole wide caption)) ∷ room (length caption) output ∷ []
+recode_tests caption output = gives Refusal.Long (too_long caption) ∷ gives Refusal.Odd (not (whole wide caption)) ∷ room (length caption) output ∷ []
 
 -- the field in its new form, which has as many bytes
 abbrev pub recoding : List ℕ → List ℕ → List ℕ → Outcome

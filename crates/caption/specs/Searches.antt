@@ -1,18 +1,18 @@
 -- What a search answers and leaves in the list, for every input: the field is a code, the pattern is plain.
 use Rattle.std.specs.Prelude.{◌≡◌, not, ◌&&◌, List, [], ◌∷◌, ℕ, ◌+◌, ◌≤◌, ◌<◌, eqb, length}
-use Rattle.units.specs.Refusals.{Test, first, gives, LONG, ODD, EMPTY}
+use Rattle.units.specs.Refusals.{Verdict, Test, first, gives}
 use Rattle.units.specs.Filling.{room}
 use Rattle.units.specs.Naming.{named}
 use Rattle.units.specs.Writing.{written}
-use Rattle.units.specs.declared.Listed.{Listed}
-use Rattle.units.specs.declared.Listed.TheVariants.{Numbers, Refused}
-use Rattle.units.specs.declared.Verdict.{Verdict}
+use Rattle.units.specs.Naming.{Listed}
 use Rattle.field.specs.Field.{GF16}
 use Rattle.signature.specs.Objects.{symbol, symbols}
 use Rattle.signature.specs.Kinds.{wide}
 use Rattle.signature.specs.Operations.{whole}
 use Rattle.caption.specs.Codes.{hit, places}
 use Rattle.caption.specs.Recoding.{too_long}
+use Rattle.std.specs.Prelude.{Ok, Err}
+use Rattle.units.specs.declared.Refusal.{Refusal}
 
 -- the places of a pattern in a field, and those where it hits, upward
 abbrev pub places_for : List ℕ → List ℕ → ℕ
@@ -30,15 +30,15 @@ searched_of answer list = record { answer = answer; list = list }
 
 -- the places stand at the list's start, and the rest of it is as it was
 abbrev pub search_unless : Verdict → List ℕ → List ℕ → Searched
-search_unless Verdict.Allowed places list = searched_of (Numbers (length places)) (written list 0 places)
-search_unless (Verdict.Refused r) places list = searched_of (Refused r) list
+search_unless (Ok _) places list = searched_of (Ok (length places)) (written list 0 places)
+search_unless (Err r) places list = searched_of (Err r) list
 
 abbrev pub search_tests : List ℕ → List ℕ → List ℕ → List Test
 search_tests caption pattern list =
-    gives LONG (too_long caption)
-    ∷ gives ODD (not (whole wide caption && whole wide pattern))
+    gives Refusal.Long (too_long caption)
+    ∷ gives Refusal.Odd (not (whole wide caption && whole wide pattern))
     ∷ room (places_for caption pattern) list
-    ∷ gives EMPTY (eqb (symbols 2 pattern) 0)
+    ∷ gives Refusal.Empty (eqb (symbols 2 pattern) 0)
     ∷ []
 
 abbrev pub searching : ℕ → List ℕ → List ℕ → List ℕ → Searched

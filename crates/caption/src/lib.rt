@@ -6,72 +6,56 @@ ghost use Rattle.units.specs.Filling.{outcome_of};
 ghost use Rattle.units.specs.Naming.{named};
 ghost use Rattle.units.specs.Refusals.{first};
 ghost use Rattle.units.specs.Writing.{written};
-ghost use Rattle.units.specs.declared.Verdict.TheVariants.{Allowed, Refused};
+ghost use Rattle.units.specs.Refusals.{allowed};
 ghost use Rattle.field.specs.Field.{◌⊕◌};
 ghost use Rattle.signature.specs.Objects.{symbol as object_symbol, symbols as object_symbols};
 ghost use Rattle.caption.specs.Codes.{previous as code_previous};
 ghost use Rattle.caption.specs.Recoding.{bytes, encoded, decoded, too_long, recode_tests, encoding, decoding};
 ghost use Rattle.caption.specs.Searches.{found, places_for, searched_of, search_unless, search_tests, searching};
 
-use units::{Bytes, Filled, Listed, Refusal, Verdict};
+use units::{Bytes, Refusal};
 
 // The code of a plain field, written to the start of the output.
-pub fn encode(caption: &[u8], output: &mut [u8]) -> Filled
+pub fn encode(caption: &[u8], output: &mut [u8]) -> Result<Bytes, Refusal>
     ensures { outcome_of result output.new ≡ encoding 0 caption.now output.old }
 {
-    let verdict = recode_verdict(caption, output);
-    match verdict {
-        Verdict::Refused(r) => Filled::Refused(r),
-        Verdict::Allowed => {
-            put_code(caption, output);
-            Filled::Written(Bytes {
-                count: caption.len(),
-            })
-        }
-    }
+    recode_verdict(caption, output)?;
+    put_code(caption, output);
+    Ok(Bytes {
+        count: caption.len(),
+    })
 }
 
 // The plain field of a code, written to the start of the output.
-pub fn decode(caption: &[u8], output: &mut [u8]) -> Filled
+pub fn decode(caption: &[u8], output: &mut [u8]) -> Result<Bytes, Refusal>
     ensures { outcome_of result output.new ≡ decoding 0 caption.now output.old }
 {
-    let verdict = recode_verdict(caption, output);
-    match verdict {
-        Verdict::Refused(r) => Filled::Refused(r),
-        Verdict::Allowed => {
-            put_plain(caption, output);
-            Filled::Written(Bytes {
-                count: caption.len(),
-            })
-        }
-    }
+    recode_verdict(caption, output)?;
+    put_plain(caption, output);
+    Ok(Bytes {
+        count: caption.len(),
+    })
 }
 
-fn recode_verdict(caption: &[u8], output: &[u8]) -> Verdict
+fn recode_verdict(caption: &[u8], output: &[u8]) -> Result<(), Refusal>
     ensures { result ≡ first (recode_tests caption.now output.now) }
 {
     if too_long(caption) {
-        return refused(Refusal::LONG, 0);
+        return Err(Refusal::Long);
     }
     if caption.len() % 2 != 0 {
-        return refused(Refusal::ODD, 0);
+        return Err(Refusal::Odd);
     }
     if output.len() < caption.len() {
-        return refused(Refusal::ROOM, caption.len());
+        return Err(Refusal::Room(caption.len()));
     }
-    Verdict::Allowed
+    Ok(())
 }
 
 fn too_long(caption: &[u8]) -> bool
     ensures { result ≡ too_long caption.now }
 {
     !units::caption_allowed(signature::symbols_in(caption))
-}
-
-fn refused(number: u32, value: usize) -> Verdict
-    ensures { result ≡ Refused (record { number = number; value = value }) }
-{
-    Verdict::Refused(Refusal { number, value })
 }
 
 // Upward, a block at a time: the sum is the code so far.
@@ -188,36 +172,30 @@ fn put_symbols(block: &[u16], i: usize, n: usize, output: &mut [u8])
 }
 
 // The places where a plain pattern hits in a code, written to the start of the list, upward.
-pub fn search(caption: &[u8], pattern: &[u8], list: &mut [usize]) -> Listed
+pub fn search(caption: &[u8], pattern: &[u8], list: &mut [usize]) -> Result<usize, Refusal>
     ensures { searched_of result list.new ≡ searching 0 caption.now pattern.now list.old }
 {
-    let verdict = search_verdict(caption, pattern, list);
-    match verdict {
-        Verdict::Refused(r) => Listed::Refused(r),
-        Verdict::Allowed => find(caption, pattern, list),
-    }
+    search_verdict(caption, pattern, list)?;
+    find(caption, pattern, list)
 }
 
-fn search_verdict(caption: &[u8], pattern: &[u8], list: &[usize]) -> Verdict
+fn search_verdict(caption: &[u8], pattern: &[u8], list: &[usize]) -> Result<(), Refusal>
     ensures { result ≡ first (search_tests caption.now pattern.now list.now) }
 {
     if too_long(caption) {
-        return refused(Refusal::LONG, 0);
+        return Err(Refusal::Long);
     }
-    if caption.len() % 2 != 0 {
-        return refused(Refusal::ODD, 0);
-    }
-    if pattern.len() % 2 != 0 {
-        return refused(Refusal::ODD, 0);
+    if caption.len() % 2 != 0 || pattern.len() % 2 != 0 {
+        return Err(Refusal::Odd);
     }
     let needed = places(caption, pattern);
     if list.len() < needed {
-        return refused(Refusal::ROOM, needed);
+        return Err(Refusal::Room(needed));
     }
-    if pattern.len() == 0 {
-        return refused(Refusal::EMPTY, 0);
+    if pattern.is_empty() {
+        return Err(Refusal::Empty);
     }
-    Verdict::Allowed
+    Ok(())
 }
 
 // How many places there are for the pattern in the field.
@@ -236,13 +214,13 @@ fn places(caption: &[u8], pattern: &[u8]) -> usize
 }
 
 // One comparison a place: what it is compared with is the pattern's signature, weighted as symbols are. A pattern with no place is not signed.
-fn find(caption: &[u8], pattern: &[u8], list: &mut [usize]) -> Listed
+fn find(caption: &[u8], pattern: &[u8], list: &mut [usize]) -> Result<usize, Refusal>
     requires { (length caption.now % 2 ≡ 0) × (places_for caption.now pattern.now ≤ length list.old) }
-    ensures { searched_of result list.new ≡ search_unless Allowed (found 0 caption.now pattern.now) list.old }
+    ensures { searched_of result list.new ≡ search_unless allowed (found 0 caption.now pattern.now) list.old }
 {
     let count = places(caption, pattern);
     if count == 0 {
-        return Listed::Numbers(0);
+        return Ok(0);
     }
     let l = signature::symbols_in(pattern).count;
     let mut weighed = [0u16; 16];
@@ -257,7 +235,7 @@ fn find(caption: &[u8], pattern: &[u8], list: &mut [usize]) -> Listed
         weights::move_on(&mut weighed);
         i += n;
     }
-    Listed::Numbers(found)
+    Ok(found)
 }
 
 // Whether some of the n places from i on may be hit. Before place 0 there is no symbol to read, so that all may be.

@@ -10,8 +10,6 @@ use lib.Dec.{eqb}
 use Rattle.units.proofs.Noting.{Noted, none_noted, noted_below, noted_length}
 use Rattle.units.specs.Naming.{named}
 use Rattle.units.specs.Writing.{written}
-use Rattle.units.specs.declared.Listed.TheVariants.{Numbers}
-use Rattle.units.specs.declared.Verdict.TheVariants.{Allowed}
 use Rattle.field.proofs.Instances.{GF16_passes, GF16_formed}
 use Rattle.field.proofs.Products.{product_assoc}
 use Rattle.field.specs.Field.{GF16, Element, ◌⊕◌, product}
@@ -28,6 +26,8 @@ use Rattle.caption.proofs.Codes.{as_weight, weight_element, weight_on}
 use Rattle.caption.proofs.find.Invariants.{hitting}
 use Rattle.caption.proofs.find.Goals as goal
 use Rattle.caption.proofs.find.Goals.{then-may_hit, else-may_hit}
+use Rattle.std.specs.Prelude.{Ok}
+use Rattle.units.specs.Refusals.{allowed}
 
 signed : (pattern : List ℕ) → Octets pattern → Element GF16 (signature GF16 2 pattern 1)
 signed pattern octets = component_element GF16 GF16_formed (symbols 2 pattern) (symbol 2 pattern) 1 (GF16_symbol pattern octets)
@@ -42,11 +42,11 @@ block_inside caption pattern {count} {l} {i} {n} even counted long before few =
 
 -- when every place is through, the list and the count are those of the definition
 all_noted : (caption pattern list₀ : List ℕ) (k : ℕ) (list : List ℕ) (count : ℕ) → k ≡ places_for caption pattern
-    → Noted (hitting caption pattern) list₀ k list count → searched_of (Numbers count) list ≡ search_unless Allowed (found 0 caption pattern) list₀
+    → Noted (hitting caption pattern) list₀ k list count → searched_of (Ok count) list ≡ search_unless allowed (found 0 caption pattern) list₀
 unfolding hitting found
 all_noted caption pattern list₀ k list count all n =
     let same : named (hitting caption pattern) k ≡ found 0 caption pattern = ap (named (hitting caption pattern)) all in
-    ap₂ (λ (c : ℕ) (l : List ℕ). searched_of (Numbers c) l) (n.found_is ∙ ap length same) (n.list_is ∙ ap (written list₀ 0) same)
+    ap₂ (λ (c : ℕ) (l : List ℕ). searched_of (Ok c) l) (n.found_is ∙ ap length same) (n.list_is ∙ ap (written list₀ 0) same)
 
 pub returns-then-count-eq0 : goal.returns-then-count-eq0
 unfolding found
