@@ -3,10 +3,13 @@
 use mathlib.Core.Path.{◌≡◌, sym, ap, ◌∙◌}
 use mathlib.Core.List.{List}
 use Prim.Native.Nat.{ℕ, zero, suc, ◌+◌, ◌*◌, ◌≤◌}
+use native.Mathlib.Nat.{zero-add}
+use native.Mathlib.Numerals.{add-one}
 use native.Mathlib.Omega.{arith}
-use lib.ListN.{length}
+use lib.ListN.{length, length-append}
 use Rattle.units.specs.Runs.{end_to_end}
 use Rattle.units.proofs.Runs.{run_more, run_none, run_as_long}
+use Rattle.listing.proofs.Writers.{run_last}
 use Rattle.signature.specs.Signatures.{handed}
 use Rattle.map.specs.Reading.{entry_at}
 use Rattle.map.specs.Files.{pages}
@@ -39,3 +42,16 @@ lines_most n small (suc m) k =
 pub header_most : (h : Header) → length (header_line h) ≤ 104
 header_most h =
     omega (arith, header_line_length h, width_most 19 h.n, width_most 19 h.page.count, width_most 19 h.bucket.count, width_most 19 (pages h))
+
+-- one line more
+pub lines_next : (n k : ℕ) → length (end_to_end (λ i. page_line n i (λ j. 0)) 0 (k + 1)) ≡ length (end_to_end (λ i. page_line n i (λ j. 0)) 0 k) + (width k + 5 * n + 1)
+lines_next n k =
+    let f : ℕ → List ℕ = λ i. page_line n i (λ j. 0) in
+    omega (
+      arith,
+      ap (λ (i : ℕ). length (end_to_end f 0 i)) (add-one k),
+      ap length (run_last f 0 k),
+      length-append (end_to_end f 0 k) (f (0 + k)),
+      page_line_length n (0 + k) (λ j. 0),
+      ap width (zero-add k),
+    )
