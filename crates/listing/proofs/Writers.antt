@@ -6,13 +6,22 @@ use Prim.Native.Nat.{ℕ, suc, ◌+◌, ◌-◌, ◌≤◌, ◌<◌}
 use native.Mathlib.Nat.{add-zero}
 use native.Mathlib.Numerals.{add-one}
 use native.Mathlib.Omega.{arith}
-use lib.ListN.{length, length-append}
-use Rattle.units.specs.Writing.{Put, put_of}
+use lib.ListN.{length, take, drop, length-append}
+use lib.Seq.{drop-drop}
+use borrow.Rule.Slice.PartMut.{put_mid}
+use Rattle.units.specs.Writing.{written, Put, put_of, put}
 use Rattle.units.specs.Runs.{end_to_end}
 use Rattle.units.proofs.Writing.{written_length, written_none, put_then}
 use Rattle.units.proofs.Runs.{run_split, run_at}
 use Rattle.listing.specs.declared.Writer.{Writer}
 use Rattle.listing.specs.Writers.{HasRoom, Puts}
+
+-- a part of the output that was filled, and the place behind it
+pub part_puts : (old : List ℕ) (at end : ℕ) (part new : List ℕ) → part ≡ new → end ≡ at + length new → put_of (put_mid at (end - at) old part) end ≡ put old at new
+unfolding written
+part_puts old at end part new is size =
+    let behind : at + (end - at) ≡ at + length new = omega arith in
+    ap₂ put_of (ap₂ (λ (l r : List ℕ). take at old ++ (l ++ r)) is (drop-drop (end - at) at old ∙ ap (λ (n : ℕ). drop n old) behind)) size
 
 pub room_first : (xs ys : List ℕ) (w : Writer) → HasRoom (xs ++ ys) w → HasRoom xs w
 room_first xs ys w room = omega (arith, length-append xs ys, room)
@@ -38,19 +47,19 @@ module _ (xs ys zs : List ℕ) (old : Writer) (room : HasRoom (xs ++ ys ++ zs) o
   room_two : HasRoom (xs ++ ys) old
   room_two = room_first (xs ++ ys) zs old room
 
-  pub first_room : HasRoom xs old
-  first_room = room_first xs ys old room_two
+  pub room_three_first : HasRoom xs old
+  room_three_first = room_first xs ys old room_two
 
   module _ (one : Writer) (first : Puts xs old one) where
-    pub second_room : HasRoom ys one
-    second_room = room_then xs ys old one room_two first
+    pub room_three_second : HasRoom ys one
+    room_three_second = room_then xs ys old one room_two first
 
     module _ (two : Writer) (second : Puts ys one two) where
       both : Puts (xs ++ ys) old two
       both = puts_then xs ys old one room_two first two second
 
-      pub third_room : HasRoom zs two
-      third_room = room_then (xs ++ ys) zs old two room both
+      pub room_three_third : HasRoom zs two
+      room_three_third = room_then (xs ++ ys) zs old two room both
 
       pub puts_three : (new : Writer) → Puts zs two new → Puts (xs ++ ys ++ zs) old new
       puts_three = puts_then (xs ++ ys) zs old two room both

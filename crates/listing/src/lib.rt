@@ -1,7 +1,7 @@
 // The listing of a map as text: what it holds, line by line, or where it is refused.
 #![tactic(auto)]
 
-ghost use Rattle.std.specs.Prelude.{◌≡◌, ◌++◌, ◌+◌, ◌*◌, ◌<◌, ◌≤◌, length};
+ghost use Rattle.std.specs.Prelude.{◌≡◌, ◌∷◌, ◌++◌, ◌+◌, ◌*◌, ◌<◌, ◌≤◌, length};
 ghost use Rattle.units.specs.Filling.{outcome_of};
 ghost use Rattle.signature.specs.Signatures.{handed};
 ghost use Rattle.units.specs.Runs.{end_to_end};
@@ -63,7 +63,7 @@ impl<'a> Writer<'a> {
         requires { HasRoom text.now self.old }
         ensures { Puts text.now self.old self.new }
     {
-        units::put_part(text, self.output, self.at);
+        self.output[self.at..self.at + text.len()].copy_from_slice(text);
         self.at += text.len();
     }
 
@@ -76,6 +76,7 @@ impl<'a> Writer<'a> {
         self.at += count;
     }
 
+    // Not by `write!`: no clause says that it succeeds where there is room, which `list` promises.
     fn decimal(&mut self, x: usize)
         requires { HasRoom (decimal x) self.old }
         ensures { Puts (decimal x) self.old self.new }
@@ -116,14 +117,22 @@ impl<'a> Writer<'a> {
         self.text(b"\n");
     }
 
-    // A signature's n components, each after a space.
+    // A component, after a space.
+    fn column(&mut self, x: usize)
+        requires { HasRoom (32 ∷ hex x) self.old }
+        ensures { Puts (32 ∷ hex x) self.old self.new }
+    {
+        self.text(b" ");
+        self.hex(x);
+    }
+
+    // A signature's n components.
     fn columns(&mut self, s: Signature)
         requires { HasRoom (columns s.n (handed s)) self.old }
         ensures { Puts (columns s.n (handed s)) self.old self.new }
     {
         for j in 1..=s.n {
-            self.text(b" ");
-            self.hex(usize::from(map::component(s, j)));
+            self.column(usize::from(map::component(s, j)));
         }
     }
 
@@ -147,6 +156,7 @@ impl<'a> Writer<'a> {
     }
 }
 
+#[tactic(auto, using(crate::proofs::Digits::width_most, crate::proofs::Lengths::header_line_length))]
 fn header_line_bytes(h: Header) -> usize
     ensures { result ≡ length (header_line h) }
 {
@@ -154,6 +164,7 @@ fn header_line_bytes(h: Header) -> usize
 }
 
 // Their lines' bytes, whatever the components: lines of zeros are as long.
+#[tactic(auto, using(crate::proofs::Digits::width_most))]
 fn page_lines_bytes(h: Header) -> usize
     requires { (h.n ≤ 4) × (header_pages h ≤ 4096) }
     ensures { result ≡ length (end_to_end (λ k. page_line h.n k (λ j. 0)) 0 (header_pages h)) }

@@ -8,7 +8,7 @@ use Rattle.map.specs.declared.Header.{Header}
 use Rattle.listing.specs.Lines.{n_word, page_word, bucket_word, pages_word, line_end, two_named, header_line}
 use Rattle.listing.specs.declared.Writer.{Writer}
 use Rattle.listing.specs.Writers.{HasRoom, Puts}
-use Rattle.listing.proofs.Writers.{first_room, second_room, third_room, puts_three}
+use Rattle.listing.proofs.Writers.{room_three_first, room_three_second, room_three_third, puts_three}
 use Rattle.listing.proofs.Writer.header_line.Goals as goal
 
 abbrev sizes : Header → List ℕ
@@ -29,19 +29,19 @@ module _ (h : Header) (k : ℕ) (is : k ≡ pages h) where
 pub two_named-requires : goal.two_named-requires
 two_named-requires c =
     let h : Header = c.args.h in
-    first_room (sizes h) (counts h (pages h)) line_end c.args.self.now (room_by h (pages h) refl c.args.self.now c.requires)
+    room_three_first (sizes h) (counts h (pages h)) line_end c.args.self.now (room_by h (pages h) refl c.args.self.now c.requires)
 
 pub two_named-requires-2 : goal.two_named-requires-2
 two_named-requires-2 c =
     let h : Header = c.args.h in
     let k : ℕ = c.pages.result in
-    second_room (sizes h) (counts h k) line_end c.args.self.now (room_by h k c.pages.ensures c.args.self.now c.requires) c.two_named.new.self c.two_named.ensures
+    room_three_second (sizes h) (counts h k) line_end c.args.self.now (room_by h k c.pages.ensures c.args.self.now c.requires) c.two_named.new.self c.two_named.ensures
 
 pub text-requires : goal.text-requires
 text-requires c =
     let h : Header = c.args.h in
     let k : ℕ = c.pages.result in
-    third_room (sizes h) (counts h k) line_end c.args.self.now (room_by h k c.pages.ensures c.args.self.now c.requires) c.two_named.new.self c.two_named.ensures
+    room_three_third (sizes h) (counts h k) line_end c.args.self.now (room_by h k c.pages.ensures c.args.self.now c.requires) c.two_named.new.self c.two_named.ensures
     c.two_named-2.new.self c.two_named-2.ensures
 
 pub returns : goal.returns
