@@ -1,20 +1,16 @@
 -- `listing::list_held` meets its contract: the header line and the pages' lines are the listing.
 -- Assumes nothing.
-use mathlib.Core.Path.{◌≡◌, sym, ap, ◌∙◌}
+use mathlib.Core.Path.{◌≡◌}
 use mathlib.Core.List.{List, ◌++◌}
-use Prim.Native.Nat.{ℕ, ◌+◌, ◌≤◌}
+use Prim.Native.Nat.{ℕ, ◌+◌}
 use native.Mathlib.Omega.{arith}
 use lib.ListN.{length, length-append}
 use Rattle.std.proofs.Common.{rules}
-use Rattle.units.specs.Filling.{outcome_of}
 use Rattle.units.specs.Runs.{end_to_end}
-use Rattle.units.specs.declared.Filled.TheVariants.{Refused}
-use Rattle.units.specs.declared.Filled.{Filled}
 use Rattle.map.specs.Files.{pages}
 use Rattle.map.specs.declared.Header.{Header}
 use Rattle.listing.specs.Lines.{header_line, page_line, line_of}
-use Rattle.listing.specs.Writers.{HasRoom}
-use Rattle.listing.proofs.Texts.{text_refused, text_put}
+use Rattle.listing.proofs.Texts.{text_short, text_room, text_put}
 use Rattle.listing.proofs.Pages.{lines_bytes, lines_most, header_most}
 use Rattle.listing.proofs.Writers.{room_first, room_then, puts_then}
 use Rattle.listing.proofs.list_held.Goals as goal
@@ -37,36 +33,24 @@ overflow_add-needed c =
 pub returns-then-output-needed : goal.returns-then-output-needed
 returns-then-output-needed c =
     let h : Header = c.args.h in
-    let text : List ℕ = header_line h ++ lines h c.args.map.now in
-    let size : c.header_line_bytes.result + c.page_lines_bytes.result ≡ length text = counted h c.args.map.now _ _ c.header_line_bytes.ensures c.page_lines_bytes.ensures in
-    ap (λ (a : Filled). outcome_of a c.args.output.now) (c.refused.ensures ∙ ap (λ (k : ℕ). Refused (record { number = 7; value = k })) size)
-    ∙ sym (text_refused text c.args.output.now (omega arith))
+    let size : _ = counted h c.args.map.now _ _ c.header_line_bytes.ensures c.page_lines_bytes.ensures in
+    text_short (header_line h ++ lines h c.args.map.now) c.args.output.now _ size c.if-output-needed.true c.refused.result c.refused.ensures
 
 pub header_line-requires : goal.header_line-requires
 header_line-requires c =
     let h : Header = c.args.h in
     let start : _ = c.new-lines in
+    let size : _ = counted h c.args.map.now _ _ c.header_line_bytes.ensures c.page_lines_bytes.ensures in
     room_first (header_line h) (lines h c.args.map.now) start.result
-    (omega (
-      arith,
-      counted h c.args.map.now _ _ c.header_line_bytes.ensures c.page_lines_bytes.ensures,
-      c.if-output-needed.false,
-      start.ensures.empty.1,
-      ap length start.ensures.empty.0,
-    ))
+    (text_room (header_line h ++ lines h c.args.map.now) c.args.output.now _ size c.if-output-needed.false start.result start.ensures.empty)
 
 pub page_lines-requires : goal.page_lines-requires
 page_lines-requires c =
     let h : Header = c.args.h in
     let start : _ = c.new-lines in
+    let size : _ = counted h c.args.map.now _ _ c.header_line_bytes.ensures c.page_lines_bytes.ensures in
     room_then (header_line h) (lines h c.args.map.now) start.result c.header_line.new.self
-    (omega (
-      arith,
-      counted h c.args.map.now _ _ c.header_line_bytes.ensures c.page_lines_bytes.ensures,
-      c.if-output-needed.false,
-      start.ensures.empty.1,
-      ap length start.ensures.empty.0,
-    ))
+    (text_room (header_line h ++ lines h c.args.map.now) c.args.output.now _ size c.if-output-needed.false start.result start.ensures.empty)
     c.header_line.ensures
 
 pub returns : goal.returns
@@ -74,10 +58,8 @@ returns c =
     let h : Header = c.args.h in
     let start : _ = c.new-lines in
     let text : List ℕ = header_line h ++ lines h c.args.map.now in
-    let size : c.header_line_bytes.result + c.page_lines_bytes.result ≡ length text = counted h c.args.map.now _ _ c.header_line_bytes.ensures c.page_lines_bytes.ensures in
-    let enough : length text ≤ length c.args.output.now = omega (arith, c.if-output-needed.false) in
-    let room : HasRoom text start.result = omega (arith, start.ensures.empty.1, ap length start.ensures.empty.0) in
-    text_put text c.args.output.now (c.header_line_bytes.result + c.page_lines_bytes.result) _ start.result c.page_lines.new.self size enough
-    start.ensures.empty.0 start.ensures.empty.1
+    let size : _ = counted h c.args.map.now _ _ c.header_line_bytes.ensures c.page_lines_bytes.ensures in
+    let room : _ = text_room text c.args.output.now _ size c.if-output-needed.false start.result start.ensures.empty in
+    text_put text c.args.output.now _ size c.if-output-needed.false start.result start.ensures.empty c.page_lines.new.self
     (puts_then (header_line h) (lines h c.args.map.now) start.result c.header_line.new.self room c.header_line.ensures c.page_lines.new.self c.page_lines.ensures)
-    (search rules)
+    _ (search rules)
