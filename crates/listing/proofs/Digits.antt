@@ -3,8 +3,8 @@
 use mathlib.Core.Path.{◌≡◌, refl}
 use mathlib.Core.Logic.{dite}
 use mathlib.Core.List.{[], ◌∷◌, ◌++◌}
-use Prim.Native.Nat.{ℕ, zero, suc, ◌/◌, ◌%◌, ◌≤◌, ◌<◌}
-use native.Mathlib.Nat.{le_refl}
+use Prim.Native.Nat.{ℕ, zero, suc, ◌*◌, ◌/◌, ◌%◌, ◌^◌, ◌≤◌, ◌<◌}
+use native.Mathlib.Nat.{le_refl, pow-zero, pow-suc}
 use native.Mathlib.Decide.{dec_lt}
 use native.Mathlib.Omega.{arith}
 use lib.ListN.{length, length-append}
@@ -44,6 +44,21 @@ width_most (suc more) x =
     dite (dec_lt x 10)
     (λ (small : x < 10). omega (arith, width_one more x small))
     (λ large. let tens : 10 ≤ x = omega arith in omega (arith, width_more more x tens, width_most more (x / 10)))
+
+power_some : (k : ℕ) → 1 ≤ 10 ^ k
+power_some zero = omega (arith, pow-zero 10)
+power_some (suc k) = omega (arith, pow-suc 10 k, power_some k)
+
+-- a number has one digit more than its logarithm says
+pub width_log : (more k x : ℕ) → k ≤ more → 10 ^ k ≤ x → x < 10 * 10 ^ k → width_within more x ≡ suc k
+width_log zero zero x fits low high = width_end x
+width_log zero (suc k) x fits low high = absurd (omega arith)
+width_log (suc more) zero x fits low high = omega (arith, pow-zero 10, width_one more x)
+width_log (suc more) (suc k) x fits low high =
+    let some : 1 ≤ 10 ^ k = power_some k in
+    let power : 10 ^ suc k ≡ 10 ^ k * 10 = pow-suc 10 k in
+    let tens : 10 ≤ x = omega arith in
+    omega (arith, width_more more x tens, width_log more k (x / 10) (omega arith) (omega arith) (omega arith))
 
 pub digits_none : (base x : ℕ) → digits base 0 x ≡ []
 unfolding digits

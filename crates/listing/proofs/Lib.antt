@@ -3,5 +3,6 @@ pub mod Digits
 pub mod Lengths
 pub mod Pages
 pub mod Texts
+pub mod Writers
 pub mod Values
 pub mod Listings

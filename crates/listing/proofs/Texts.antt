@@ -1,6 +1,6 @@
 -- A text put at the start of an output: where there is no room for it, and where there is.
 -- Assumes nothing.
-use mathlib.Core.Path.{◌≡◌, ap, ◌∙◌}
+use mathlib.Core.Path.{◌≡◌, sym, ap, ap₂, ◌∙◌}
 use mathlib.Core.Logic.{dite}
 use mathlib.Core.List.{List}
 use Prim.Native.Nat.{ℕ, ◌≤◌, ◌<◌}
@@ -9,12 +9,15 @@ use native.Mathlib.Omega.{arith}
 use lib.ListN.{length}
 use borrow.Author.Tests.{lt-ltb, le-ltb}
 use Rattle.units.specs.Refusals.{ROOM}
-use Rattle.units.specs.Writing.{written}
+use Rattle.units.specs.Writing.{written, Put}
 use Rattle.units.specs.Filling.{Outcome, outcome_of}
 use Rattle.units.specs.declared.Bytes.{Bytes}
 use Rattle.units.specs.declared.Refusal.{Refusal}
+use Rattle.units.specs.declared.Filled.{Filled}
 use Rattle.units.specs.declared.Filled.TheVariants.{Written, Refused}
 use Rattle.listing.specs.Lines.{text_out}
+use Rattle.listing.specs.declared.Writer.{Writer}
+use Rattle.listing.specs.Writers.{HasRoom, Puts}
 
 written_not_refused : (b : Bytes) (r : Refusal) → Written b ≡ Refused r → ⊥
 written_not_refused b r p = let z : ◌≡◌ {A = ℕ} 0 1 = cc in omega arith
@@ -30,6 +33,24 @@ module _ (text output : List ℕ) where
   pub text_written : length text ≤ length output → text_out text output ≡ outcome_of (Written (record { count = length text })) (written output 0 text)
   unfolding text_out
   text_written enough = simp (le-ltb (length output) (length text) enough)
+
+  module _ (count : ℕ) (size : count ≡ length text) where
+    -- an answer that names that length, where there is no room for it
+    pub text_short : length output < count → (a : Filled) → a ≡ Refused (record { number = ROOM; value = count }) → outcome_of a output ≡ text_out text output
+    text_short short a is =
+        ap (λ (x : Filled). outcome_of x output) (is ∙ ap (λ (k : ℕ). Refused (record { number = ROOM; value = k })) size)
+        ∙ sym (text_refused (omega arith))
+
+    module _ (enough : count ≤ length output) (start : Writer) (empty : (start.output.now ≡ output) × (start.at ≡ 0)) where
+      pub text_room : HasRoom text start
+      text_room = omega (arith, empty.1, ap length empty.0)
+
+      -- what a writer put from the start
+      pub text_put : (end : Writer) → Puts text start end → (last : List ℕ) → end.output.now ≡ last → outcome_of (Written (record { count = count })) last ≡ text_out text output
+      text_put end puts last is =
+          let all : last ≡ written output 0 text =
+          sym is ∙ ap (λ (p : Put). p.buffer) puts.0 ∙ ap₂ (λ (l : List ℕ) (k : ℕ). written l k text) empty.0 empty.1 in
+          ap₂ (λ (k : ℕ) (l : List ℕ). outcome_of (Written (record { count = k })) l) size all ∙ sym (text_written (omega arith))
 
   -- what was answered as written is inside the output
   pub text_fits : (b : Bytes) (after : List ℕ) → outcome_of (Written b) after ≡ text_out text output → b.count ≤ length output

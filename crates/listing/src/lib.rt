@@ -1,14 +1,14 @@
 // The listing of a map as text: what it holds, line by line, or where it is refused.
 #![tactic(auto)]
 
-ghost use Rattle.std.specs.Prelude.{◌≡◌, ◌++◌, ◌+◌, ◌*◌, ◌<◌, ◌≤◌, length};
-ghost use Rattle.units.specs.Writing.{written, put_of, put};
+ghost use Rattle.std.specs.Prelude.{◌≡◌, ◌∷◌, ◌++◌, ◌+◌, ◌*◌, ◌<◌, ◌≤◌, length};
 ghost use Rattle.units.specs.Filling.{outcome_of};
 ghost use Rattle.signature.specs.Signatures.{handed};
 ghost use Rattle.units.specs.Runs.{end_to_end};
 ghost use Rattle.map.specs.Files.{pages as header_pages};
-ghost use Rattle.listing.specs.Digits.{digits, decimal};
+ghost use Rattle.listing.specs.Digits.{digits, decimal, hex};
 ghost use Rattle.listing.specs.Digits.{digit as digits_digit, width as digits_width};
+ghost use Rattle.listing.specs.Writers.{HasRoom, Puts};
 ghost use Rattle.listing.specs.Lines.{named, two_named, header_line, columns, page_line, refused_line, line_of, listed, listing, text_out};
 
 use map::{Header, Reading};
@@ -22,135 +22,142 @@ fn digit(d: usize) -> u8
     requires { d < 16 }
     ensures { result ≡ digits_digit d }
 {
-    if d < 10 {
-        return (48 + d) as u8;
-    }
-    (87 + d) as u8
+    b"0123456789abcdef"[d]
 }
 
 // How many decimal digits x has.
 fn width(x: usize) -> usize
     ensures { result ≡ digits_width x }
 {
+    x.max(1).ilog10() as usize + 1
+}
+
+// The last digits of x in all the places, from the lowest up.
+// By index: an invariant cannot name what a loop over `iter_mut().rev()` has written.
+fn fill_digits(base: usize, x: usize, places: &mut [u8])
+    requires { (1 ≤ base) × (base ≤ 16) }
+    ensures { places.new ≡ digits base (length places.old) x }
+{
     let mut rest = x;
-    let mut count: usize = 1;
-    while count < 20 {
-        if rest < 10 {
-            return count;
+    for i in (0..places.len()).rev() {
+        places[i] = digit(rest % base);
+        rest /= base;
+    }
+}
+
+// An output, and how far it is written.
+#[derive(Drop)]
+struct Writer<'a> {
+    output: &'a mut [u8],
+    at: usize,
+}
+
+impl<'a> Writer<'a> {
+    fn new(output: &'a mut [u8]) -> Self
+        ensures same_output { result.output.ghost_name ≡ output.entry.ghost_name }
+        ensures empty { (result.output.now ≡ output.old) × (result.at ≡ 0) }
+    {
+        Writer { output, at: 0 }
+    }
+
+    fn text(&mut self, text: &[u8])
+        requires { HasRoom text.now self.old }
+        ensures { Puts text.now self.old self.new }
+    {
+        self.output[self.at..self.at + text.len()].copy_from_slice(text);
+        self.at += text.len();
+    }
+
+    #[tactic(auto, using(crate::proofs::Digits::digits_length))]
+    fn digits(&mut self, base: usize, count: usize, x: usize)
+        requires { (1 ≤ base) × (base ≤ 16) × HasRoom (digits base count x) self.old }
+        ensures { Puts (digits base count x) self.old self.new }
+    {
+        fill_digits(base, x, &mut self.output[self.at..self.at + count]);
+        self.at += count;
+    }
+
+    // Not by `write!`: no clause says that it succeeds where there is room, which `list` promises.
+    fn decimal(&mut self, x: usize)
+        requires { HasRoom (decimal x) self.old }
+        ensures { Puts (decimal x) self.old self.new }
+    {
+        self.digits(10, width(x), x);
+    }
+
+    fn hex(&mut self, x: usize)
+        requires { HasRoom (hex x) self.old }
+        ensures { Puts (hex x) self.old self.new }
+    {
+        self.digits(16, 4, x);
+    }
+
+    // A word, and a number after it.
+    fn named(&mut self, word: &[u8], x: usize)
+        requires { HasRoom (named word.now x) self.old }
+        ensures { Puts (named word.now x) self.old self.new }
+    {
+        self.text(word);
+        self.decimal(x);
+    }
+
+    fn two_named(&mut self, one: &[u8], x: usize, two: &[u8], y: usize)
+        requires { HasRoom (two_named one.now x two.now y) self.old }
+        ensures { Puts (two_named one.now x two.now y) self.old self.new }
+    {
+        self.named(one, x);
+        self.named(two, y);
+    }
+
+    fn header_line(&mut self, h: Header)
+        requires { HasRoom (header_line h) self.old }
+        ensures { Puts (header_line h) self.old self.new }
+    {
+        self.two_named(b"n ", h.n, b" page ", h.page.count);
+        self.two_named(b" bucket ", h.bucket.count, b" pages ", map::pages(h));
+        self.text(b"\n");
+    }
+
+    // A component, after a space.
+    fn column(&mut self, x: usize)
+        requires { HasRoom (32 ∷ hex x) self.old }
+        ensures { Puts (32 ∷ hex x) self.old self.new }
+    {
+        self.text(b" ");
+        self.hex(x);
+    }
+
+    // A signature's n components.
+    fn columns(&mut self, s: Signature)
+        requires { HasRoom (columns s.n (handed s)) self.old }
+        ensures { Puts (columns s.n (handed s)) self.old self.new }
+    {
+        for j in 1..=s.n {
+            self.column(usize::from(map::component(s, j)));
         }
-        rest = rest / 10;
-        count += 1;
     }
-    count
-}
 
-// The last digits of x, from the lowest up.
-fn put_digits(base: usize, count: usize, x: usize, output: &mut [u8], at: usize)
-    requires { (1 ≤ base) × (base ≤ 16) × (at + count ≤ length output.old) }
-    ensures { output.new ≡ written output.old at (digits base count x) }
-{
-    let mut rest = x;
-    let mut left = count;
-    while left > 0 {
-        left -= 1;
-        output[at + left] = digit(rest % base);
-        rest = rest / base;
+    fn page_line(&mut self, k: usize, s: Signature)
+        requires { HasRoom (page_line s.n k (handed s)) self.old }
+        ensures { Puts (page_line s.n k (handed s)) self.old self.new }
+    {
+        self.decimal(k);
+        self.columns(s);
+        self.text(b"\n");
     }
-}
 
-fn put_decimal(x: usize, output: &mut [u8], at: usize) -> usize
-    requires { at + length (decimal x) ≤ length output.old }
-    ensures { put_of output.new result ≡ put output.old at (decimal x) }
-{
-    let count = width(x);
-    put_digits(10, count, x, output, at);
-    at + count
-}
-
-fn put_text(text: &[u8], output: &mut [u8], at: usize) -> usize
-    requires { at + length text.now ≤ length output.old }
-    ensures { put_of output.new result ≡ put output.old at text.now }
-{
-    units::put_part(text, output, at);
-    at + text.len()
-}
-
-// A word, and a number after it.
-fn put_named(word: &[u8], x: usize, output: &mut [u8], at: usize) -> usize
-    requires { at + length (named word.now x) ≤ length output.old }
-    ensures { put_of output.new result ≡ put output.old at (named word.now x) }
-{
-    let next = put_text(word, output, at);
-    put_decimal(x, output, next)
-}
-
-fn put_two_named(one: &[u8], x: usize, two: &[u8], y: usize, output: &mut [u8], at: usize) -> usize
-    requires { at + length (two_named one.now x two.now y) ≤ length output.old }
-    ensures { put_of output.new result ≡ put output.old at (two_named one.now x two.now y) }
-{
-    let next = put_named(one, x, output, at);
-    put_named(two, y, output, next)
-}
-
-fn put_header_line(h: Header, output: &mut [u8]) -> usize
-    requires { length (header_line h) ≤ length output.old }
-    ensures { put_of output.new result ≡ put output.old 0 (header_line h) }
-{
-    let page = put_two_named(b"n ", h.n, b" page ", h.page.count, output, 0);
-    let pages = put_two_named(
-        b" bucket ",
-        h.bucket.count,
-        b" pages ",
-        map::pages(h),
-        output,
-        page,
-    );
-    put_text(b"\n", output, pages)
-}
-
-// A signature's n components, each after a space.
-fn put_columns(s: Signature, output: &mut [u8], at: usize) -> usize
-    requires { at + length (columns s.n (handed s)) ≤ length output.old }
-    ensures { put_of output.new result ≡ put output.old at (columns s.n (handed s)) }
-{
-    let mut left = s.n;
-    let mut j: usize = 1;
-    let mut to = at;
-    while left > 0 {
-        output[to] = 32;
-        put_digits(16, 4, map::component(s, j) as usize, output, to + 1);
-        to += 5;
-        j += 1;
-        left -= 1;
-    }
-    to
-}
-
-fn put_page_line(k: usize, s: Signature, output: &mut [u8], at: usize) -> usize
-    requires { at + length (page_line s.n k (handed s)) ≤ length output.old }
-    ensures { put_of output.new result ≡ put output.old at (page_line s.n k (handed s)) }
-{
-    let number = put_decimal(k, output, at);
-    let components = put_columns(s, output, number);
-    put_text(b"\n", output, components)
-}
-
-// A line for each page, in page order.
-fn put_page_lines(h: Header, map: &[u8], output: &mut [u8], at: usize)
-    requires { at + length (end_to_end (line_of h.n map.now) 0 (header_pages h)) ≤ length output.old }
-    ensures { output.new ≡ written output.old at (end_to_end (line_of h.n map.now) 0 (header_pages h)) }
-{
-    let n = h.n;
-    let count = map::pages(h);
-    let mut k: usize = 0;
-    let mut to = at;
-    while k < count {
-        let e = map::entry_at(n, map, k);
-        to = put_page_line(k, e.signature, output, to);
-        k += 1;
+    // A line for each page, in page order.
+    fn page_lines(&mut self, h: Header, map: &[u8])
+        requires { HasRoom (end_to_end (line_of h.n map.now) 0 (header_pages h)) self.old }
+        ensures { Puts (end_to_end (line_of h.n map.now) 0 (header_pages h)) self.old self.new }
+    {
+        for k in 0..map::pages(h) {
+            self.page_line(k, map::entry_at(h.n, map, k).signature);
+        }
     }
 }
 
+#[tactic(auto, using(crate::proofs::Digits::width_most, crate::proofs::Lengths::header_line_length))]
 fn header_line_bytes(h: Header) -> usize
     ensures { result ≡ length (header_line h) }
 {
@@ -158,17 +165,14 @@ fn header_line_bytes(h: Header) -> usize
 }
 
 // Their lines' bytes, whatever the components: lines of zeros are as long.
+#[tactic(auto, using(crate::proofs::Digits::width_most))]
 fn page_lines_bytes(h: Header) -> usize
     requires { (h.n ≤ 4) × (header_pages h ≤ 4096) }
     ensures { result ≡ length (end_to_end (λ k. page_line h.n k (λ j. 0)) 0 (header_pages h)) }
 {
-    let n = h.n;
-    let count = map::pages(h);
     let mut total: usize = 0;
-    let mut k: usize = 0;
-    while k < count {
-        total += width(k) + 5 * n + 1;
-        k += 1;
+    for k in 0..map::pages(h) {
+        total += width(k) + 5 * h.n + 1;
     }
     total
 }
@@ -182,8 +186,9 @@ fn list_held(h: Header, map: &[u8], output: &mut [u8]) -> Filled
     if output.len() < needed {
         return units::refused(Refusal::ROOM, needed);
     }
-    let start = put_header_line(h, output);
-    put_page_lines(h, map, output, start);
+    let mut lines = Writer::new(output);
+    lines.header_line(h);
+    lines.page_lines(h, map);
     Filled::Written(Bytes { count: needed })
 }
 
@@ -194,8 +199,9 @@ fn list_refused(at: usize, output: &mut [u8]) -> Filled
     if output.len() < needed {
         return units::refused(Refusal::ROOM, needed);
     }
-    let end = put_named(b"map refused at ", at, output, 0);
-    put_text(b"\n", output, end);
+    let mut line = Writer::new(output);
+    line.named(b"map refused at ", at);
+    line.text(b"\n");
     Filled::Written(Bytes { count: needed })
 }
 

@@ -1,57 +1,53 @@
 -- `listing::list_refused` meets its contract: the word, the place and the line's end are the listing.
 -- Assumes nothing.
-use mathlib.Core.Path.{◌≡◌, sym, ap, ap₂, ◌∙◌}
-use mathlib.Core.List.{List}
-use Prim.Native.Nat.{ℕ, ◌+◌, ◌≤◌}
+use mathlib.Core.Path.{◌≡◌}
+use Prim.Native.Nat.{ℕ, ◌+◌}
 use native.Mathlib.Omega.{arith}
-use lib.ListN.{length, length-append}
-use Rattle.units.specs.Filling.{outcome_of}
-use Rattle.units.specs.Writing.{Put, put_of, put}
-use Rattle.units.specs.declared.Filled.TheVariants.{Written, Refused}
-use Rattle.units.specs.declared.Filled.{Filled}
-use Rattle.units.proofs.Writing.{put_next, put_then}
+use lib.ListN.{length}
+use Rattle.std.proofs.Common.{rules}
+use Rattle.listing.specs.Digits.{width}
 use Rattle.listing.specs.Lines.{refused_word, line_end, named, refused_line}
-use Rattle.listing.proofs.Texts.{text_refused, text_written}
-use Rattle.listing.proofs.Lengths.{named_length, refused_line_length}
+use Rattle.listing.proofs.Texts.{text_short, text_room, text_put}
+use Rattle.listing.proofs.Lengths.{refused_line_length}
 use Rattle.listing.proofs.Digits.{width_most}
+use Rattle.listing.proofs.Writers.{room_first, room_then, puts_then}
 use Rattle.listing.proofs.list_refused.Goals as goal
 
+counted : (place digits : ℕ) → digits ≡ width place → 16 + digits ≡ length (refused_line place)
+counted place digits is = omega (arith, refused_line_length place)
+
 pub overflow_add-needed : goal.overflow_add-needed
-overflow_add-needed c =
-    omega (arith, c.width-needed.ensures, width_most 19 c.args.at)
+overflow_add-needed c = omega (arith, c.width-needed.ensures, width_most 19 c.args.at)
 
 pub returns-then-output-needed : goal.returns-then-output-needed
 returns-then-output-needed c =
-    let args : _ = c.args in
-    let size : 16 + c.width-needed.result ≡ length (refused_line args.at) = omega (arith, c.width-needed.ensures, refused_line_length args.at) in
-    ap (λ (a : Filled). outcome_of a args.output.now) (c.refused.ensures ∙ ap (λ (k : ℕ). Refused (record { number = 7; value = k })) size)
-    ∙ sym (text_refused (refused_line args.at) args.output.now (omega arith))
+    text_short (refused_line c.args.at) c.args.output.now (16 + c.width-needed.result) (counted c.args.at _ c.width-needed.ensures) c.if-output-needed.true
+    c.refused.result c.refused.ensures
 
-pub put_named-end-requires : goal.put_named-end-requires
-put_named-end-requires c =
-    omega (arith, c.width-needed.ensures, named_length refused_word c.args.at)
+pub named-requires : goal.named-requires
+unfolding refused_line
+named-requires c =
+    let start : _ = c.new-line in
+    room_first (named refused_word c.args.at) line_end start.result
+    (text_room (refused_line c.args.at) c.args.output.now (16 + c.width-needed.result) (counted c.args.at _ c.width-needed.ensures) c.if-output-needed.false
+    start.result start.ensures.empty)
 
-pub put_text-requires : goal.put_text-requires
-put_text-requires c =
-    let args : _ = c.args in
-    let width : _ = c.width-needed in
-    let if1 : _ = c.if-output-needed in
-    let put-named : _ = c.put_named-end in
-    omega (arith, width.ensures, named_length refused_word args.at, put_next _ _ _ _ _ put-named.ensures, put-named.auto.output, if1.false)
+pub text-requires : goal.text-requires
+unfolding refused_line
+text-requires c =
+    let start : _ = c.new-line in
+    room_then (named refused_word c.args.at) line_end start.result c.named.new.self
+    (text_room (refused_line c.args.at) c.args.output.now (16 + c.width-needed.result) (counted c.args.at _ c.width-needed.ensures) c.if-output-needed.false
+    start.result start.ensures.empty)
+    c.named.ensures
 
 pub returns : goal.returns
 unfolding refused_line
 returns c =
-    let width : _ = c.width-needed in
-    let if1 : _ = c.if-output-needed in
-    let put-named : _ = c.put_named-end in
-    let put-text : _ = c.put_text in
-    let args : _ = c.args in
-    let text : List ℕ = named refused_word args.at in
-    let size : 16 + width.result ≡ length (refused_line args.at) = omega (arith, width.ensures, refused_line_length args.at) in
-    let enough : length (refused_line args.at) ≤ length args.output.now = omega (arith, if1.false) in
-    let long : length (refused_line args.at) ≡ length text + 1 = length-append text line_end in
-    let both : put_of put-text.new.output put-text.result ≡ put args.output.now 0 (refused_line args.at) =
-    put_then args.output.now _ _ 0 _ _ text line_end (omega arith) put-named.ensures put-text.ensures in
-    ap₂ (λ (k : ℕ) (l : List ℕ). outcome_of (Written (record { count = k })) l) size (ap (λ (p : Put). p.buffer) both)
-    ∙ sym (text_written (refused_line args.at) args.output.now enough)
+    let start : _ = c.new-line in
+    let size : _ = counted c.args.at _ c.width-needed.ensures in
+    let room : _ = text_room (refused_line c.args.at) c.args.output.now (16 + c.width-needed.result) size c.if-output-needed.false start.result start.ensures.empty in
+    text_put (refused_line c.args.at) c.args.output.now (16 + c.width-needed.result) size c.if-output-needed.false start.result start.ensures.empty
+    c.text.new.self
+    (puts_then (named refused_word c.args.at) line_end start.result c.named.new.self room c.named.ensures c.text.new.self c.text.ensures)
+    _ (search rules)

@@ -1,30 +1,23 @@
--- `listing::width` meets its contract. The invariant: the digits counted and those left are all digits.
+-- `listing::width` meets its contract: one digit more than the logarithm says, and 0 has one digit as 1 has.
 -- Assumes nothing.
 use mathlib.Core.Path.{◌≡◌, ap, ◌∙◌}
-use Prim.Native.Nat.{ℕ, suc, ◌+◌, ◌-◌, ◌/◌}
+use mathlib.Core.Logic.{dite}
+use Prim.Native.Nat.{ℕ, suc, ◌<◌, max}
+use native.Mathlib.Decide.{dec_lt}
 use native.Mathlib.Omega.{arith}
-use Rattle.listing.specs.Digits.{width_within}
-use Rattle.listing.proofs.Digits.{width_one, width_more, width_end}
+use Rattle.listing.specs.Digits.{width}
+use Rattle.listing.proofs.Digits.{width_log, width_one}
 use Rattle.listing.proofs.width.Goals as goal
 
-pub returns-then-rest-lt10 : goal.returns-then-rest-lt10
-returns-then-rest-lt10 c =
-    let at : _ = c.loop-count in
-    let more : 20 - at.count ≡ suc (19 - at.count) = omega arith in
-    let one : width_within (20 - at.count) at.rest ≡ 1 = ap (λ (m : ℕ). width_within m at.rest) more ∙ width_one (19 - at.count) at.rest c.if-rest-lt10.true in
-    omega arith
-
-pub loop-count-preserved : goal.loop-count-preserved
-loop-count-preserved c =
-    let at : _ = c.loop-count in
-    let more : 20 - at.count ≡ suc (20 - (at.count + 1)) = omega arith in
-    let next : width_within (20 - at.count) at.rest ≡ suc (width_within (20 - (at.count + 1)) (at.rest / 10)) =
-    ap (λ (m : ℕ). width_within m at.rest) more ∙ width_more (20 - (at.count + 1)) at.rest c.if-rest-lt10.false in
-    (omega arith, omega arith, omega arith)
+width_max : (x : ℕ) → width (max x 1) ≡ width x
+width_max x =
+    dite (dec_lt x 1)
+    (λ (none : x < 1). let one : max x 1 ≡ 1 = omega arith in ap width one ∙ omega (arith, width_one 18 x, width_one 18 1))
+    (λ some. let same : max x 1 ≡ x = omega arith in ap width same)
 
 pub returns : goal.returns
 returns c =
-    let at : _ = c.loop-count in
-    let none : 20 - at.count ≡ 0 = omega arith in
-    let one : width_within (20 - at.count) at.rest ≡ 1 = ap (λ (m : ℕ). width_within m at.rest) none ∙ width_end at.rest in
-    omega arith
+    let log : _ = c.ilog10 in
+    let ok : _ = log.ensures in
+    let digits : width c.max.result ≡ suc log.result = width_log 19 log.result c.max.result (omega (arith, ok.bound)) ok.power_le ok.next_power_gt in
+    omega (arith, ap width c.max.ensures, width_max c.args.x)
