@@ -24,6 +24,12 @@ pub entry_line : (n : ℕ) (bytes : List ℕ) (k : ℕ) (e : Entry) → e ≡ en
 unfolding entry_at
 entry_line n bytes k e is = ap (λ (x : Entry). page_line x.signature.n k (handed x.signature)) is
 
+-- its length, by n alone
+pub entry_line_length : (n : ℕ) (bytes : List ℕ) (k i : ℕ) (e : Entry) → e ≡ entry_at n bytes i → length (page_line e.signature.n k (handed e.signature)) ≡ width k + 5 * n + 1
+unfolding entry_at
+entry_line_length n bytes k i e is =
+    page_line_length e.signature.n k (handed e.signature) ∙ ap (λ (x : Entry). width k + 5 * x.signature.n + 1) is
+
 pub lines_bytes : (n : ℕ) (bytes : List ℕ) (m : ℕ) → length (end_to_end (λ k. page_line n k (λ j. 0)) 0 m) ≡ length (end_to_end (line_of n bytes) 0 m)
 lines_bytes n bytes m =
     run_as_long (λ k. page_line n k (λ j. 0)) (line_of n bytes) (λ k. page_line_length n k (λ j. 0) ∙ sym (page_line_length n k (handed (entry_at n bytes k).signature))) m 0

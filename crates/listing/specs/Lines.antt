@@ -1,13 +1,12 @@
 -- The listing of a map as bytes of ASCII: a header line and a line for each page, or one line that says where the map is refused.
-use Rattle.std.specs.Prelude.{List, [], ◌∷◌, ◌++◌, ℕ, length}
+use Rattle.std.specs.Prelude.{List, [], ◌∷◌, ◌++◌, ℕ, length, Ok, Err}
 use Rattle.units.specs.Filling.{Outcome, filling, room}
 use Rattle.units.specs.Runs.{end_to_end}
 use Rattle.signature.specs.Signatures.{handed}
 use Rattle.map.specs.Files.{pages}
 use Rattle.map.specs.Reading.{reading, entry_at}
 use Rattle.map.specs.declared.Header.{Header}
-use Rattle.map.specs.declared.Reading.{Reading}
-use Rattle.map.specs.declared.Reading.TheVariants.{Holds, Breaks}
+use Rattle.map.specs.Reading.{Reading}
 use Rattle.listing.specs.Digits.{decimal, hex}
 
 -- "n "
@@ -59,8 +58,8 @@ abbrev pub line_of : ℕ → List ℕ → ℕ → List ℕ
 line_of n bytes k = page_line n k (handed (entry_at n bytes k).signature)
 
 abbrev pub listed : List ℕ → Reading → List ℕ
-listed bytes (Holds h) = header_line h ++ end_to_end (line_of h.n bytes) 0 (pages h)
-listed bytes (Breaks place) = refused_line place
+listed bytes (Ok h) = header_line h ++ end_to_end (line_of h.n bytes) 0 (pages h)
+listed bytes (Err b) = refused_line b.place
 
 unfoldable pub listing : List ℕ → List ℕ
 listing bytes = listed bytes (reading bytes)

@@ -1,7 +1,7 @@
 // The listing of a map as text: what it holds, line by line, or where it is refused.
 #![tactic(auto)]
 
-ghost use Rattle.std.specs.Prelude.{◌≡◌, ◌∷◌, ◌++◌, ◌+◌, ◌*◌, ◌<◌, ◌≤◌, length};
+ghost use Rattle.std.specs.Prelude.{◌≡◌, ◌∷◌, ◌++◌, ◌+◌, ◌*◌, ◌<◌, ◌≤◌, length, Ok};
 ghost use Rattle.units.specs.Filling.{outcome_of};
 ghost use Rattle.signature.specs.Signatures.{handed};
 ghost use Rattle.units.specs.Runs.{end_to_end};
@@ -11,9 +11,9 @@ ghost use Rattle.listing.specs.Digits.{digit as digits_digit, width as digits_wi
 ghost use Rattle.listing.specs.Writers.{HasRoom, Puts};
 ghost use Rattle.listing.specs.Lines.{named, two_named, header_line, columns, page_line, refused_line, line_of, listed, listing, text_out};
 
-use map::{Header, Reading};
+use map::Header;
 use signature::Signature;
-use units::{Bytes, Filled, Refusal};
+use units::{Bytes, Refusal};
 
 // No listing is longer.
 pub const LISTING_BYTES_MOST: usize = 168_040;
@@ -178,40 +178,39 @@ fn page_lines_bytes(h: Header) -> usize
 }
 
 // The listing of a map that holds what its header says.
-fn list_held(h: Header, map: &[u8], output: &mut [u8]) -> Filled
+fn list_held(h: Header, map: &[u8], output: &mut [u8]) -> Result<Bytes, Refusal>
     requires { (h.n ≤ 4) × (header_pages h ≤ 4096) }
-    ensures { outcome_of result output.new ≡ text_out (listed map.now (Reading.Holds h)) output.old }
+    ensures { outcome_of result output.new ≡ text_out (listed map.now (Ok h)) output.old }
 {
     let needed = header_line_bytes(h) + page_lines_bytes(h);
     if output.len() < needed {
-        return units::refused(Refusal::ROOM, needed);
+        return Err(Refusal::Room(needed));
     }
     let mut lines = Writer::new(output);
     lines.header_line(h);
     lines.page_lines(h, map);
-    Filled::Written(Bytes { count: needed })
+    Ok(Bytes { count: needed })
 }
 
-fn list_refused(at: usize, output: &mut [u8]) -> Filled
+fn list_refused(at: usize, output: &mut [u8]) -> Result<Bytes, Refusal>
     ensures { outcome_of result output.new ≡ text_out (refused_line at) output.old }
 {
     let needed = 16 + width(at);
     if output.len() < needed {
-        return units::refused(Refusal::ROOM, needed);
+        return Err(Refusal::Room(needed));
     }
     let mut line = Writer::new(output);
     line.named(b"map refused at ", at);
     line.text(b"\n");
-    Filled::Written(Bytes { count: needed })
+    Ok(Bytes { count: needed })
 }
 
 // The whole listing of any bytes, put at the start of the output.
-pub fn list(map: &[u8], output: &mut [u8]) -> Filled
+pub fn list(map: &[u8], output: &mut [u8]) -> Result<Bytes, Refusal>
     ensures { outcome_of result output.new ≡ text_out (listing map.now) output.old }
 {
-    let reading = map::read(map);
-    match reading {
-        Reading::Breaks(at) => list_refused(at, output),
-        Reading::Holds(h) => list_held(h, map, output),
+    match map::read(map) {
+        Err(b) => list_refused(b.place, output),
+        Ok(h) => list_held(h, map, output),
     }
 }

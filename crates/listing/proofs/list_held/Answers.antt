@@ -34,7 +34,7 @@ pub returns-then-output-needed : goal.returns-then-output-needed
 returns-then-output-needed c =
     let h : Header = c.args.h in
     let size : _ = counted h c.args.map.now _ _ c.header_line_bytes.ensures c.page_lines_bytes.ensures in
-    text_short (header_line h ++ lines h c.args.map.now) c.args.output.now _ size c.if-output-needed.true c.refused.result c.refused.ensures
+    text_short (header_line h ++ lines h c.args.map.now) c.args.output.now _ size c.if-output-needed.true
 
 pub header_line-requires : goal.header_line-requires
 header_line-requires c =

@@ -22,7 +22,6 @@ overflow_add-needed c = omega (arith, c.width-needed.ensures, width_most 19 c.ar
 pub returns-then-output-needed : goal.returns-then-output-needed
 returns-then-output-needed c =
     text_short (refused_line c.args.at) c.args.output.now (16 + c.width-needed.result) (counted c.args.at _ c.width-needed.ensures) c.if-output-needed.true
-    c.refused.result c.refused.ensures
 
 pub named-requires : goal.named-requires
 unfolding refused_line
