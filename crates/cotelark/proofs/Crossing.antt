@@ -4,7 +4,7 @@ use mathlib.Core.Path.{◌≡◌, ap, ◌∙◌}
 use mathlib.Core.List.{List}
 use Prim.Native.Nat.{ℕ}
 use Rattle.units.specs.Filling.{Outcome, outcome_of}
-use Rattle.units.specs.declared.Filled.{Filled}
+use Rattle.units.specs.Filling.{Filled}
 use Rattle.cotelark.specs.Replies.{Reply, filled, wrote_of, wrote}
 
 pub wrote_crosses : {reply : Reply} {answer : Filled} {output : List ℕ} {o : Outcome} → reply ≡ filled answer → outcome_of answer output ≡ o → wrote_of reply output ≡ wrote o

@@ -7,14 +7,15 @@ use native.Mathlib.Omega.{arith}
 use lib.ListN.{length, take, drop, length-take}
 use lib.Seq.{take-take, take-length}
 use Rattle.units.specs.declared.Refusal.{Refusal}
-use Rattle.units.specs.declared.Verdict.{Verdict}
-use Rattle.units.specs.declared.Verdict.TheVariants.{Allowed, Refused}
+use Rattle.units.specs.Refusals.{Verdict}
 use Rattle.map.specs.Buckets.{page_at}
 use Rattle.map.specs.Reading.{header_of}
 use Rattle.map.specs.declared.Header.{Header}
 use Rattle.load.specs.Loads.{asking, loaded_page}
 use Rattle.load.proofs.Answers.{load_gives, load_refused}
 use Rattle.cotelark.specs.Replies.{Part, part_of, part_unless, loaded_part}
+use Rattle.std.specs.Prelude.{Ok, Err}
+use Rattle.units.specs.Refusals.{allowed, refused}
 
 -- as many elements as a list's start has are that start
 start_again : (size : ℕ) (l : List ℕ) → take (length (take size l)) l ≡ take size l
@@ -29,24 +30,24 @@ module _ (image map : List ℕ) (k : ℕ) where
   unfolding loaded_part
   part_by v e = ap (λ (w : Verdict). part_unless w (k * (header_of map).page.count) (length (loaded_page image map k))) e
 
-  pub part_refused : (r : Refusal) → asking image map k ≡ Refused r → loaded_part image map k ≡ part_of 0 0
-  part_refused r e = part_by (Refused r) e
+  pub part_refused : (r : Refusal) → asking image map k ≡ refused r → loaded_part image map k ≡ part_of 0 0
+  part_refused r e = part_by (refused r) e
 
   -- h is the map's header, and part the page that it says
-  pub part_loaded : (h : Header) (part : List ℕ) → asking image map k ≡ Allowed → header_of map ≡ h → part ≡ page_at h.page.count image k
+  pub part_loaded : (h : Header) (part : List ℕ) → asking image map k ≡ allowed → header_of map ≡ h → part ≡ page_at h.page.count image k
       → loaded_part image map k ≡ part_of (k * h.page.count) (length part)
   part_loaded h part e header is =
       let page : loaded_page image map k ≡ part =
       load_gives image map k e ∙ ap (λ (g : Header). page_at g.page.count image k) header ∙ sym is in
-      part_by Allowed e ∙ ap₂ part_of (ap (λ (g : Header). k * g.page.count) header) (ap length page)
+      part_by allowed e ∙ ap₂ part_of (ap (λ (g : Header). k * g.page.count) header) (ap length page)
 
   holds_page : (v : Verdict) → asking image map k ≡ v → take (loaded_part image map k).bytes (drop (loaded_part image map k).start image) ≡ loaded_page image map k
   unfolding page_at
-  holds_page Allowed e =
+  holds_page (Ok _) e =
       let page : ℕ = (header_of map).page.count in
       let part : _ = part_loaded (header_of map) (page_at page image k) e refl refl in
       ap (λ (p : Part). take p.bytes (drop p.start image)) part ∙ start_again page (drop (k * page) image) ∙ sym (load_gives image map k e)
-  holds_page (Refused r) e = ap (λ (p : Part). take p.bytes (drop p.start image)) (part_refused r e) ∙ sym (load_refused image map k r e)
+  holds_page (Err r) e = ap (λ (p : Part). take p.bytes (drop p.start image)) (part_refused r e) ∙ sym (load_refused image map k r e)
 
   -- the bytes of the part are the page's, and a refused load's part has none
   pub part_holds_page : take (loaded_part image map k).bytes (drop (loaded_part image map k).start image) ≡ loaded_page image map k

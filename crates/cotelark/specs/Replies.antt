@@ -1,16 +1,15 @@
 -- How an answer crosses to C: as a status, which is 0 or the refusal's number, and numbers beside it.
-use Rattle.std.specs.Prelude.{false, cond, List, [], ◌∷◌, ℕ, ◌*◌, length, get_or}
+use Rattle.std.specs.Prelude.{false, cond, List, [], ◌∷◌, ℕ, ◌*◌, length, get_or, Result, Ok, Err}
 use Rattle.units.specs.Filling.{Outcome}
-use Rattle.units.specs.Refusals.{MAP}
-use Rattle.units.specs.declared.Filled.{Filled}
-use Rattle.units.specs.declared.Listed.{Listed}
+use Rattle.units.specs.Refusals.{Verdict, number, value, MAP}
+use Rattle.units.specs.Filling.{Filled}
+use Rattle.units.specs.Naming.{Listed}
 use Rattle.units.specs.declared.Refusal.{Refusal}
-use Rattle.units.specs.declared.Verdict.{Verdict}
-use Rattle.signature.specs.declared.Answer.{Answer}
+use Rattle.signature.specs.Operations.{Answer}
 use Rattle.signature.specs.declared.Signature.{Signature}
 use Rattle.map.specs.Files.{pages}
 use Rattle.map.specs.Reading.{header_of}
-use Rattle.map.specs.declared.Reading.{Reading}
+use Rattle.map.specs.Reading.{Reading}
 use Rattle.store.specs.Steps.{Stepped}
 use Rattle.store.specs.Stores.{Stored}
 use Rattle.store.specs.declared.Answer.{Answer as StepAnswer}
@@ -30,22 +29,22 @@ reply_of status value = record { status = status; value = value }
 
 -- the refusal's number, and the value that the table gives beside it
 abbrev pub refusing : Refusal → Reply
-refusing r = reply_of r.number r.value
+refusing r = reply_of (number r) (value r)
 
 -- no value is named where nothing stands against a question
 abbrev pub asked : Verdict → Reply
-asked Verdict.Allowed = reply_of 0 0
-asked (Verdict.Refused r) = refusing r
+asked (Ok _) = reply_of 0 0
+asked (Err r) = refusing r
 
 -- the bytes written
 abbrev pub filled : Filled → Reply
-filled (Filled.Written b) = reply_of 0 b.count
-filled (Filled.Refused r) = refusing r
+filled (Ok b) = reply_of 0 b.count
+filled (Err r) = refusing r
 
 -- the numbers listed
 abbrev pub listed : Listed → Reply
-listed (Listed.Numbers count) = reply_of 0 count
-listed (Listed.Refused r) = refusing r
+listed (Ok count) = reply_of 0 count
+listed (Err r) = refusing r
 
 -- ---- a signature: its n, and four symbols in a lent array
 
@@ -61,8 +60,8 @@ signed_of status four = record { status = status; four = four }
 
 -- refused, the array stays as it was
 abbrev pub signed : Answer → List ℕ → Signed
-signed (Answer.Signed s) four = signed_of 0 (s.s1 ∷ s.s2 ∷ s.s3 ∷ s.s4 ∷ [])
-signed (Answer.Refused r) four = signed_of r.number four
+signed (Ok s) four = signed_of 0 (s.s1 ∷ s.s2 ∷ s.s3 ∷ s.s4 ∷ [])
+signed (Err r) four = signed_of (number r) four
 
 -- ---- an output or a list that is written, and the reply beside it
 
@@ -98,8 +97,8 @@ abbrev pub read_of : Reply → Sizes → Read
 read_of reply sizes = record { reply = reply; sizes = sizes }
 
 abbrev pub read : Reading → Read
-read (Reading.Holds h) = read_of (reply_of 0 0) (sizes_of h.n h.page.count h.bucket.count (pages h))
-read (Reading.Breaks place) = read_of (reply_of MAP place) (sizes_of 0 0 0 0)
+read (Ok h) = read_of (reply_of 0 0) (sizes_of h.n h.page.count h.bucket.count (pages h))
+read (Err b) = read_of (reply_of MAP b.place) (sizes_of 0 0 0 0)
 
 -- ---- a store: its reply, and what image, map and list hold then
 
@@ -136,11 +135,11 @@ pub record Did : Type 0 where
 abbrev pub did_of : Reply → ℕ → Did
 did_of reply answer = record { reply = reply; answer = answer }
 
-abbrev pub did : StepAnswer → Did
-did (StepAnswer.Kept k) = did_of (reply_of 0 k) KEPT
-did (StepAnswer.Written k) = did_of (reply_of 0 k) WRITTEN
-did StepAnswer.Finished = did_of (reply_of 0 0) FINISHED
-did (StepAnswer.Refused r) = did_of (refusing r) REFUSED
+abbrev pub did : Result StepAnswer Refusal → Did
+did (Ok (StepAnswer.Kept k)) = did_of (reply_of 0 k) KEPT
+did (Ok (StepAnswer.Written k)) = did_of (reply_of 0 k) WRITTEN
+did (Ok StepAnswer.Finished) = did_of (reply_of 0 0) FINISHED
+did (Err r) = did_of (refusing r) REFUSED
 
 abbrev pub place_at : ℕ → Place
 place_at page = record { page = page }
@@ -183,20 +182,20 @@ mended_of reply answer position old new marked =
 abbrev pub no_change : Change
 no_change = record { position = record { count = 0 }; old = 0; new = 0; marked = false }
 
-abbrev pub change_in : Repair → Change
-change_in Repair.Whole = no_change
-change_in (Repair.Repaired c) = c
-change_in Repair.Beyond = no_change
-change_in (Repair.Refused r) = no_change
+abbrev pub change_in : Result Repair Refusal → Change
+change_in (Ok Repair.Whole) = no_change
+change_in (Ok (Repair.Repaired c)) = c
+change_in (Ok Repair.Beyond) = no_change
+change_in (Err r) = no_change
 
 abbrev pub mended_by : Reply → ℕ → Change → Mended
 mended_by reply answer c = mended_of reply answer c.position.count c.old c.new (cond c.marked 1 0)
 
-abbrev pub mended : Repair → Mended
-mended Repair.Whole = mended_by (reply_of 0 0) WHOLE no_change
-mended (Repair.Repaired c) = mended_by (reply_of 0 0) REPAIRED c
-mended Repair.Beyond = mended_by (reply_of 0 0) BEYOND no_change
-mended (Repair.Refused r) = mended_by (refusing r) REFUSED no_change
+abbrev pub mended : Result Repair Refusal → Mended
+mended (Ok Repair.Whole) = mended_by (reply_of 0 0) WHOLE no_change
+mended (Ok (Repair.Repaired c)) = mended_by (reply_of 0 0) REPAIRED c
+mended (Ok Repair.Beyond) = mended_by (reply_of 0 0) BEYOND no_change
+mended (Err r) = mended_by (refusing r) REFUSED no_change
 
 pub record Righted : Type 0 where
   pub mended : Mended
@@ -218,8 +217,8 @@ abbrev pub part_of : ℕ → ℕ → Part
 part_of start bytes = record { start = start; bytes = bytes }
 
 abbrev pub part_unless : Verdict → ℕ → ℕ → Part
-part_unless Verdict.Allowed start bytes = part_of start bytes
-part_unless (Verdict.Refused r) start bytes = part_of 0 0
+part_unless (Ok _) start bytes = part_of start bytes
+part_unless (Err r) start bytes = part_of 0 0
 
 -- page k starts after the k whole pages before it
 unfoldable pub loaded_part : List ℕ → List ℕ → ℕ → Part

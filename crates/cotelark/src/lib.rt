@@ -19,8 +19,6 @@ ghost use Rattle.cotelark.specs.Replies.{reply_of, asked, signature_in, signed_o
 ghost use Rattle.cotelark.specs.Replies.{saved_of, saved, place_at, did_of, went_of, went, part_of, loaded_of, loaded};
 ghost use Rattle.cotelark.specs.Replies.{mended_of, righted_of, righted};
 
-use backup::Opening;
-use map::Reading;
 use store::Place;
 use units::{Bytes, Refusal, Symbols};
 
@@ -91,17 +89,16 @@ pub extern "C" fn cotelark_read_map(
 ) -> u32
     ensures { read_of (reply_of result value.new) (sizes_of n.new page.new bucket.new pages.new) ≡ read (reading map.now) }
 {
-    let reading = map::read(map);
-    match reading {
-        Reading::Breaks(place) => {
+    match map::read(map) {
+        Err(b) => {
             *n = 0;
             *page = 0;
             *bucket = 0;
             *pages = 0;
-            *value = place;
-            Refusal::MAP
+            *value = b.place;
+            Refusal::from(b).number()
         }
-        Reading::Holds(h) => {
+        Ok(h) => {
             *n = h.n;
             *page = h.page.count;
             *bucket = h.bucket.count;
@@ -148,8 +145,7 @@ pub extern "C" fn cotelark_step(
     let at = Place { page: *place };
     let step = at.step(table, image, map);
     *place = step.next.page;
-    let what = step.answer;
-    replies::did(what, answer, value)
+    replies::did(step.answer, answer, value)
 }
 
 // Where page k stands in the image.
@@ -164,14 +160,13 @@ pub extern "C" fn cotelark_load_page(
 ) -> u32
     ensures { loaded_of (reply_of result value.new) (part_of start.new bytes.new) ≡ loaded image.now map.now k }
 {
-    let opening = load::open_page(image, map, k);
-    match opening {
-        Opening::Refused(r) => {
+    match load::open_page(image, map, k) {
+        Err(r) => {
             *start = 0;
             *bytes = 0;
             replies::refused(r, value)
         }
-        Opening::Open(h) => {
+        Ok(h) => {
             *start = k * h.page.count;
             *bytes = map::page_at(h.page, image, k).len();
             replies::done(0, value)

@@ -1,12 +1,13 @@
 // How an answer crosses to C: the status is handed back, and the numbers and symbols beside it go where the caller says.
-ghost use Rattle.std.specs.Prelude.{◌≡◌, cond};
+ghost use Rattle.std.specs.Prelude.{◌≡◌};
 ghost use Rattle.cotelark.specs.Replies.{reply_of, refusing, asked as reply_asked, filled as reply_filled, listed as reply_listed};
 ghost use Rattle.cotelark.specs.Replies.{signature_in, signed_of, signed as reply_signed, did_of, did as reply_did};
 ghost use Rattle.cotelark.specs.Replies.{change_in, mended_of, mended as reply_mended};
 
 use repair::{Change, Repair};
 use signature::Signature;
-use units::{Filled, Listed, Refusal, Symbols, Verdict};
+use store::Answer;
+use units::{Bytes, Refusal, Symbols};
 
 // What a step did, by number.
 pub const STEP_REFUSED: u32 = 0;
@@ -36,54 +37,48 @@ pub fn done(x: usize, value: &mut usize) -> u32
 pub fn refused(r: Refusal, value: &mut usize) -> u32
     ensures { reply_of result value.new ≡ refusing r }
 {
-    *value = r.value;
-    r.number
+    *value = r.value();
+    r.number()
 }
 
-pub fn asked(verdict: Verdict, value: &mut usize) -> u32
+pub fn asked(verdict: Result<(), Refusal>, value: &mut usize) -> u32
     ensures { reply_of result value.new ≡ reply_asked verdict }
 {
-    match verdict {
-        Verdict::Allowed => done(0, value),
-        Verdict::Refused(r) => refused(r, value),
-    }
+    listed(verdict.map(|()| 0), value)
 }
 
-pub fn filled(answer: Filled, value: &mut usize) -> u32
+pub fn filled(answer: Result<Bytes, Refusal>, value: &mut usize) -> u32
     ensures { reply_of result value.new ≡ reply_filled answer }
 {
-    match answer {
-        Filled::Written(b) => done(b.count, value),
-        Filled::Refused(r) => refused(r, value),
-    }
+    listed(answer.map(|bytes| bytes.count), value)
 }
 
-pub fn listed(answer: Listed, value: &mut usize) -> u32
+pub fn listed(answer: Result<usize, Refusal>, value: &mut usize) -> u32
     ensures { reply_of result value.new ≡ reply_listed answer }
 {
     match answer {
-        Listed::Numbers(count) => done(count, value),
-        Listed::Refused(r) => refused(r, value),
+        Ok(count) => done(count, value),
+        Err(r) => refused(r, value),
     }
 }
 
-pub fn did(answer: store::Answer, number: &mut u32, value: &mut usize) -> u32
+pub fn did(answer: Result<Answer, Refusal>, number: &mut u32, value: &mut usize) -> u32
     ensures { did_of (reply_of result value.new) number.new ≡ reply_did answer }
 {
     match answer {
-        store::Answer::Kept(k) => {
+        Ok(Answer::Kept(k)) => {
             *number = STEP_KEPT;
             done(k, value)
         }
-        store::Answer::Written(k) => {
+        Ok(Answer::Written(k)) => {
             *number = STEP_WRITTEN;
             done(k, value)
         }
-        store::Answer::Finished => {
+        Ok(Answer::Finished) => {
             *number = STEP_FINISHED;
             done(0, value)
         }
-        store::Answer::Refused(r) => {
+        Err(r) => {
             *number = STEP_REFUSED;
             refused(r, value)
         }
@@ -92,7 +87,7 @@ pub fn did(answer: store::Answer, number: &mut u32, value: &mut usize) -> u32
 
 // What a repair found. What it says of a change is 0 where it made none.
 pub fn mended(
-    repair: Repair,
+    repair: Result<Repair, Refusal>,
     answer: &mut u32,
     position: &mut usize,
     old: &mut u16,
@@ -106,31 +101,31 @@ pub fn mended(
     *position = c.position.count;
     *old = c.old;
     *new = c.new;
-    *marked = one_if(c.marked);
+    *marked = u32::from(c.marked);
     match repair {
-        Repair::Whole => {
+        Ok(Repair::Whole) => {
             *answer = REPAIR_WHOLE;
             done(0, value)
         }
-        Repair::Repaired(_) => {
+        Ok(Repair::Repaired(_)) => {
             *answer = REPAIR_REPAIRED;
             done(0, value)
         }
-        Repair::Beyond => {
+        Ok(Repair::Beyond) => {
             *answer = REPAIR_BEYOND;
             done(0, value)
         }
-        Repair::Refused(r) => {
+        Err(r) => {
             *answer = REPAIR_REFUSED;
             refused(r, value)
         }
     }
 }
 
-fn change_in(repair: Repair) -> Change
+fn change_in(repair: Result<Repair, Refusal>) -> Change
     ensures { result ≡ change_in repair }
 {
-    let Repair::Repaired(c) = repair else {
+    let Ok(Repair::Repaired(c)) = repair else {
         return Change {
             position: Symbols { count: 0 },
             old: 0,
@@ -139,12 +134,6 @@ fn change_in(repair: Repair) -> Change
         };
     };
     c
-}
-
-fn one_if(b: bool) -> u32
-    ensures { result ≡ cond b 1 0 }
-{
-    if b { 1 } else { 0 }
 }
 
 pub fn signature_in(n: usize, four: &[u16; 4]) -> Signature
@@ -159,12 +148,12 @@ pub fn signature_in(n: usize, four: &[u16; 4]) -> Signature
     }
 }
 
-pub fn signed(answer: signature::Answer, four: &mut [u16; 4]) -> u32
+pub fn signed(answer: Result<Signature, Refusal>, four: &mut [u16; 4]) -> u32
     ensures { signed_of result four.new ≡ reply_signed answer four.old }
 {
     match answer {
-        signature::Answer::Refused(r) => r.number,
-        signature::Answer::Signed(s) => {
+        Err(r) => r.number(),
+        Ok(s) => {
             *four = [s.s1, s.s2, s.s3, s.s4];
             0
         }
