@@ -123,16 +123,13 @@ fn read_entries(h: Header, map: &[u8]) -> Result<Header, Break>
     requires { h.n ≤ 4 }
     ensures { result ≡ told (first (entry_tests h.n map.now (header_pages h) 18)) h }
 {
-    let n = h.n;
-    let size = 3 + 2 * n;
-    let mut left = pages(h);
+    let size = 3 + 2 * h.n;
     let mut at = HEADER_BYTES;
-    while left > 0 {
-        if !due(4, n, map, at) {
+    for k in 0..pages(h) {
+        if !due(4, h.n, map, at) {
             return Err(Break { place: at });
         }
         at += size;
-        left -= 1;
     }
     if at < map.len() {
         return Err(Break { place: at });

@@ -84,14 +84,8 @@ fn put_components(s: Signature, output: &mut [u8], at: usize)
     requires { at + 2 * s.n ≤ length output.old }
     ensures { output.new ≡ written output.old at (file_components s.n (handed s)) }
 {
-    let mut left = s.n;
-    let mut j: usize = 1;
-    let mut to = at;
-    while left > 0 {
-        signature::put_two_bytes(component(s, j) as usize, output, to);
-        to += 2;
-        j += 1;
-        left -= 1;
+    for j in 0..s.n {
+        signature::put_two_bytes(usize::from(component(s, j + 1)), output, at + 2 * j);
     }
 }
 
@@ -126,11 +120,8 @@ fn put_entries(h: Header, bucket: &[u8], output: &mut [u8])
     requires { file_bytes h.n (header_pages h) ≤ length output.old }
     ensures { output.new ≡ written output.old 18 (entries (made_entry h.n h.page.count bucket.now) 0 (header_pages h)) }
 {
-    let count = pages(h);
-    let mut k: usize = 0;
-    while k < count {
+    for k in 0..pages(h) {
         put_entry(made_entry(h, bucket, k), output, k);
-        k += 1;
     }
 }
 

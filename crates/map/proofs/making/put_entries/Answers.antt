@@ -21,7 +21,6 @@ use Rattle.map.proofs.making.put_entries.Goals as goal
 pub loop-k-preserved : goal.loop-k-preserved
 loop-k-preserved c =
     let required : _ = c.requires in
-    let pages-here : _ = c.pages-count in
     let made-entry : _ = c.made_entry in
     let put-entry : _ = c.put_entry in
     let args : _ = c.args in
@@ -29,10 +28,10 @@ loop-k-preserved c =
     let n : ℕ = args.h.n in
     let made : ℕ → Entry = made_entry n args.h.page.count args.bucket.now in
     let f : ℕ → List ℕ = λ i. entry (made i) in
-    let m : ℕ = pages-here.result - (at.k + 1) in
+    let m : ℕ = pages args.h - (at.k + 1) in
     let last : List ℕ = put-entry.new.map in
     let whole-n : (made at.k).signature.n ≡ n = made_n n args.h.page.count args.bucket.now at.k in
-    let below : at.k < pages args.h = omega arith in
+    let below : at.k < pages args.h = omega (arith, c.pages-k-end.ensures) in
     let inside : place n at.k + entry_bytes n ≤ length at.output = omega (arith, entry_inside n at.k (pages args.h) below, required) in
     let room : place (made at.k).signature.n at.k + entry_bytes (made at.k).signature.n ≤ length at.output =
     subst (λ (i : ℕ). place i at.k + entry_bytes i ≤ length at.output) (sym whole-n) inside in
@@ -41,7 +40,7 @@ loop-k-preserved c =
     ∙ ap (λ (e : Entry). entry_put e at.output at.k) made-entry.ensures
     ∙ entry_put_lem (made at.k) at.output at.k room
     ∙ ap (λ (i : ℕ). written at.output (place i at.k) (f at.k)) whole-n in
-    let up : suc m ≡ pages-here.result - at.k = omega arith in
+    let up : suc m ≡ pages args.h - at.k = omega arith in
     let whole : at.k + suc m ≡ pages args.h = omega arith in
     let split : (at.k + suc m) * entry_bytes n ≡ at.k * entry_bytes n + suc m * entry_bytes n = add-mul at.k (suc m) (entry_bytes n) in
     let same : place n (at.k + suc m) ≡ place n (pages args.h) = ap (place n) whole in
@@ -54,19 +53,16 @@ loop-k-preserved c =
           ∙ ap (λ (i : ℕ). written at.output (place n at.k) (end_to_end f at.k i)) up
           ∙ at.invariant.0,
       put-entry.auto.map ∙ at.invariant.1,
-      omega arith,
-      at.invariant.3,
     )
 
 pub returns : goal.returns
 returns c =
     let required : _ = c.requires in
-    let pages-here : _ = c.pages-count in
     let args : _ = c.args in
     let at : _ = c.loop-k in
     let f : ℕ → List ℕ = λ i. entry (made_entry args.h.n args.h.page.count args.bucket.now i) in
-    let end : at.k ≡ pages args.h = omega arith in
-    let none : pages-here.result - at.k ≡ 0 = omega arith in
+    let end : at.k ≡ pages args.h = omega (arith, c.pages-k-end.ensures) in
+    let none : pages args.h - at.k ≡ 0 = omega arith in
     let inside : place args.h.n at.k ≤ length at.output = omega (arith, ap (place args.h.n) end, required) in
     sym (written_none at.output (place args.h.n at.k) inside) ∙ ap (written at.output (place args.h.n at.k)) (sym (run_none f at.k))
     ∙ ap (λ (m : ℕ). written at.output (place args.h.n at.k) (end_to_end f at.k m)) (sym none) ∙ at.invariant.0

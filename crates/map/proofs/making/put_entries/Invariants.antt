@@ -1,7 +1,7 @@
 -- `map::making::put_entries` meets its contract. The invariant: what is left to write gives what the whole gives.
 -- Assumes nothing.
 use mathlib.Core.Path.{◌≡◌}
-use Prim.Native.Nat.{◌-◌, ◌≤◌}
+use Prim.Native.Nat.{◌-◌}
 use lib.ListN.{length}
 use Rattle.units.specs.Writing.{written}
 use Rattle.units.specs.Runs.{end_to_end}
@@ -11,10 +11,6 @@ use Rattle.map.proofs.making.put_entries.Given as goal
 
 abbrev pub invariant-loop-k : goal.invariant-loop-k
 invariant-loop-k l =
-    (written l.output (place l.h.n l.k) (end_to_end (λ i. entry (made_entry l.h.n l.h.page.count l.bucket i)) l.k (l.count - l.k))
+    (written l.output (place l.h.n l.k) (end_to_end (λ i. entry (made_entry l.h.n l.h.page.count l.bucket i)) l.k (pages l.h - l.k))
     ≡ written l.initial.output 18 (end_to_end (λ i. entry (made_entry l.h.n l.h.page.count l.bucket i)) 0 (pages l.h)))
-    × (length l.output ≡ length l.initial.output) × (l.k ≤ l.count) × (l.count ≡ pages l.h)
-
-abbrev pub decreases-loop-k : goal.decreases-loop-k
-decreases-loop-k l =
-    l.count - l.k
+    × (length l.output ≡ length l.initial.output)
