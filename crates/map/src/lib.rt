@@ -85,7 +85,7 @@ fn header_of(map: &[u8]) -> Header
     ensures { result ≡ header_of map.now }
 {
     Header {
-        n: signature::byte(map, Bytes { count: 3 }) as usize,
+        n: usize::from(signature::byte(map, Bytes { count: 3 })),
         page: Bytes {
             count: four_bytes(map, 7),
         },

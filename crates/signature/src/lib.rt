@@ -195,9 +195,9 @@ pub fn two_bytes(object: &[u8], at: usize) -> usize
         return 0;
     }
     let second = at + 1;
-    let low = byte(object, Bytes { count: at }) as usize;
-    let high = byte(object, Bytes { count: second }) as usize;
-    low + high * 256
+    let low = byte(object, Bytes { count: at });
+    let high = byte(object, Bytes { count: second });
+    usize::from(u16::from_le_bytes([low, high]))
 }
 
 // The byte at a place, and zero past the end.

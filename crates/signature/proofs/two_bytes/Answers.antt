@@ -12,4 +12,4 @@ returns-then-at-object c =
 
 pub returns : goal.returns
 returns c =
-    ap₂ (λ (x y : ℕ). x + y * 256) c.byte-low.ensures c.byte-high.ensures ∙ sym (two_bytes _ _)
+    c.from.ensures ∙ c.from_le_bytes.ensures ∙ ap₂ (λ (x y : ℕ). x + y * 256) c.byte-low.ensures c.byte-high.ensures ∙ sym (two_bytes _ _)
