@@ -1,10 +1,10 @@
 -- `fold::add` meets its contract. The invariant: the first i bytes are added to.
 -- Assumes nothing.
-use mathlib.Core.Path.{◌≡◌, ap₂, ◌∙◌, subst}
+use mathlib.Core.Path.{◌≡◌, ap₂, subst}
 use mathlib.Core.List.{List}
 use Prim.Native.Nat.{ℕ, ◌+◌, ◌-◌}
 use native.Mathlib.Omega.{arith}
-use lib.ListN.{get_or, length-set}
+use lib.ListN.{get_or}
 use Rattle.field.specs.Field.{◌⊕◌}
 use Rattle.fold.proofs.Settings.{Setting, setting_first}
 use Rattle.fold.proofs.Landings.{added}
@@ -16,13 +16,8 @@ loop-i-preserved c =
     let at : _ = c.loop-i in
     let args : _ = c.args in
     let window : List ℕ = args.window.now in
-    let here : get_or at.window at.i 0 ≡ get_or window at.i 0 = at.invariant.0.above at.i (omega arith) in
-    let above : get_or at.window (args.from + at.i) 0 ≡ get_or window (args.from + at.i) 0 = at.invariant.0.above (args.from + at.i) (omega arith) in (
-      setting_first (λ k. get_or window k 0 ⊕ get_or window (args.from + k) 0) at.i window at.window (omega arith) (omega arith) (ap₂ ◌⊕◌ here above) at.invariant.0,
-      omega arith,
-      length-set at.window _ _ ∙ at.invariant.2,
-      at.invariant.3,
-    )
+    setting_first (λ k. get_or window k 0 ⊕ get_or window (args.from + k) 0) at.i window at.window (omega arith) (omega arith)
+    (ap₂ ◌⊕◌ (at.invariant.above at.i (omega arith)) (at.invariant.above (args.from + at.i) (omega arith))) at.invariant
 
 pub returns : goal.returns
 returns c =
@@ -31,4 +26,4 @@ returns c =
     let window : List ℕ = args.window.now in
     let all : at.i ≡ args.to - args.from = omega arith in
     added window at.window args.from args.to (omega arith)
-    (subst (λ (i : ℕ). Setting (λ k. get_or window k 0 ⊕ get_or window (args.from + k) 0) 0 i window at.window) all at.invariant.0)
+    (subst (λ (i : ℕ). Setting (λ k. get_or window k 0 ⊕ get_or window (args.from + k) 0) 0 i window at.window) all at.invariant)
