@@ -3,12 +3,13 @@
 use mathlib.Core.Path.{◌≡◌, refl, sym, ap, ap₂, ◌∙◌, subst}
 use mathlib.Core.Logic.{dite}
 use mathlib.Core.List.{List, [], ◌∷◌, ◌++◌}
-use Prim.Native.Nat.{ℕ, ◌+◌, ◌-◌, ◌≤◌, ◌<◌}
-use native.Mathlib.Nat.{zero-add, add_comm}
+use Prim.Native.Nat.{ℕ, ◌+◌, ◌≤◌, ◌<◌}
+use native.Mathlib.Nat.{add_comm}
 use native.Mathlib.Decide.{dec_lt}
 use native.Mathlib.Omega.{arith}
-use lib.ListN.{length, get_or, take, length-take, get_or-eq_default}
-use lib.Seq.{get_or-take}
+use lib.ListN.{length, get_or, set, take, length-take, get_or-eq_default}
+use lib.Seq.{get_or-take, get_or-set_same, get_or-set_other}
+use Rattle.std.proofs.Common.{below_more}
 use Rattle.field.specs.Field.{◌⊕◌}
 use Rattle.field.proofs.Sums.{sum_zero}
 use Rattle.components.specs.Relations.{summed, gathered}
@@ -16,27 +17,42 @@ use Rattle.components.specs.Windows.{Landed}
 use Rattle.std.proofs.lemmas.List.{take_more, take_all}
 use Rattle.fold.specs.Folding.{Added}
 use Rattle.fold.proofs.Fars.{Far_up}
-use Rattle.fold.proofs.Settings.{Setting}
 
 past_take : (n : ℕ) (bytes : List ℕ) (k : ℕ) → n ≤ k → get_or (take n bytes) k 0 ≡ 0
 past_take n bytes k h = get_or-eq_default (take n bytes) 0 (omega (arith, h, length-take n bytes))
 
--- what the loop sets is what the window's part adds
-pub added : (before after : List ℕ) (from to : ℕ) → from ≤ to
-    → Setting (λ k. get_or before k 0 ⊕ get_or before (from + k) 0) 0 (to - from) before after → Added from to before after
-added before after from to h s = record { added = λ k inside. at k inside }
+-- ---- one part is added
+
+-- to the first i places is added
+pub record Adding (from i : ℕ) (before after : List ℕ) : Type 0 where
+  pub done : (k : ℕ) → k < i → get_or after k 0 ≡ get_or before k 0 ⊕ get_or before (from + k) 0
+  pub above : (k : ℕ) → i ≤ k → get_or after k 0 ≡ get_or before k 0
+
+pub adding_more : (from i : ℕ) (before after : List ℕ) → i < length after → Adding from i before after
+    → Adding from (i + 1) before (set after i (get_or after i 0 ⊕ get_or after (from + i) 0))
+adding_more from i before after inside a =
+    record {
+      done = below_more _ i
+          (λ k h. get_or-set_other after i k _ 0 (λ e. absurd (omega (arith, h, e))) ∙ a.done k h)
+          (get_or-set_same after i _ 0 inside ∙ ap₂ ◌⊕◌ (a.above i (omega arith)) (a.above (from + i) (omega arith)));
+      above = λ k h. get_or-set_other after i k _ 0 (λ e. absurd (omega (arith, h, e))) ∙ a.above k (omega (arith, h));
+    }
+
+pub added : (from i to : ℕ) (before after : List ℕ) → from + i ≡ to → Adding from i before after → Added from to before after
+added from i to before after all a = record { added = λ k inside. at k }
   where
-    at : (k : ℕ) → k < to → get_or after k 0 ≡ get_or before k 0 ⊕ get_or (take to before) (k + from) 0
-    at k inside =
-        dite (dec_lt k (to - from))
-        (λ (l : k < to - from).
-        ap (λ (m : ℕ). get_or after m 0) (sym (zero-add k))
-        ∙ s.done k l
-        ∙ ap (λ (x : ℕ). get_or before k 0 ⊕ x) (ap (λ (m : ℕ). get_or before m 0) (add_comm from k) ∙ sym (get_or-take to before (k + from) 0 (omega (arith, l, h)))))
-        (λ l.
-        s.above k (omega (arith, l))
+    at : (k : ℕ) → get_or after k 0 ≡ get_or before k 0 ⊕ get_or (take to before) (k + from) 0
+    at k =
+        dite (dec_lt k i)
+        (λ (h : k < i).
+        a.done k h
+        ∙ ap (λ (x : ℕ). get_or before k 0 ⊕ x) (ap (λ (m : ℕ). get_or before m 0) (add_comm from k) ∙ sym (get_or-take to before (k + from) 0 (omega (arith, h, all)))))
+        (λ h.
+        a.above k (omega (arith, h))
         ∙ sym (sum_zero (get_or before k 0))
-        ∙ ap (λ (x : ℕ). get_or before k 0 ⊕ x) (sym (past_take to before (k + from) (omega (arith, l, h)))))
+        ∙ ap (λ (x : ℕ). get_or before k 0 ⊕ x) (sym (past_take to before (k + from) (omega (arith, h, all)))))
+
+-- ---- offsets, one after the other
 
 summed_last : (os : List ℕ) (x o : ℕ) (h : ℕ → ℕ) → summed x (os ++ (o ∷ [])) h ≡ summed x os h ⊕ h o
 unfolding summed

@@ -7,11 +7,11 @@ use Prim.Native.Nat.{ℕ, ◌+◌, ◌-◌, ◌*◌, ◌/◌, ◌%◌, ◌≤◌
 use native.Mathlib.Nat.{div-add-mod', mod-lt, mod-eq_of_lt, mul-mod_left, add-mod_right}
 use native.Mathlib.Omega.{arith}
 use native.Mathlib.Decide.{dec_lt}
-use lib.ListN.{length, get_or, take, drop, replicate, length-take, length-append, length-replicate, get_or-replicate, get_or-eq_default}
+use lib.ListN.{length, get_or, take, drop, replicate, length-take, length-drop, length-append, length-replicate, get_or-replicate, get_or-eq_default}
 use lib.Seq.{get_or-take}
 use Rattle.std.specs.List.{CopiedTo}
 use Rattle.std.proofs.Common.{append_assoc}
-use Rattle.std.proofs.lemmas.List.{take_at, drop_at, nil_from_length}
+use Rattle.std.proofs.lemmas.List.{take-append-drop, take_at, drop_at, nil_from_length}
 use Rattle.field.specs.Field.{GF16, ◌⊕◌, product, power, α}
 use Rattle.components.specs.Objects.{Octets}
 use Rattle.components.specs.Components.{signature}
@@ -20,19 +20,31 @@ use Rattle.components.specs.Windows.{Down, Raised, Landed}
 use Rattle.components.proofs.Octets.{drop_octets}
 use Rattle.components.proofs.Windows.{left, first_block, further_block, landed, signature_parts}
 use Rattle.components.proofs.Relations.{Keeps, keeps_holds}
-use Rattle.words.specs.Rows.{two, four}
 use Rattle.fold.specs.Folding.{reach, Far, Fits, Kept}
 
 -- ---- whole blocks, from the last one down
 
--- no more than a block is cut off
-pub cut_off : (n block : ℕ) → 0 < block → n ≤ n / block * block + block
-cut_off n block some = omega (arith, div-add-mod' n block, mod-lt n some)
+-- a page is whole blocks, and above them what is cut off
+pub record Cut (page blocks part : List ℕ) (block : ℕ) : Type 0 where
+  pub joined : page ≡ blocks ++ part
+  pub short : length part ≤ block
+  pub even : length blocks % block ≡ 0
 
--- what is before the blocks is nothing
-pub blocks_whole : (n block : ℕ) (whole before blocks : List ℕ) → length whole ≡ n / block * block → whole ≡ before ++ blocks → length before ≡ length whole % block → whole ≡ blocks
-blocks_whole n block whole before blocks long parts none =
-    parts ∙ ap (λ (bytes : List ℕ). bytes ++ blocks) (nil_from_length before (none ∙ ap (λ (m : ℕ). m % block) long ∙ mul-mod_left (n / block) block))
+-- before the blocks of the whole ones there is nothing
+pub cut : (page whole part before blocks : List ℕ) (block : ℕ) → 0 < block → whole ≡ take (length page / block * block) page → part ≡ drop (length page / block * block) page
+    → length whole ≡ length page / block * block → whole ≡ before ++ blocks → length before ≡ length whole % block → Cut page blocks part block
+cut page whole part before blocks block some front back long parts none =
+    record {
+      joined = sym (take-append-drop (length page / block * block) page) ∙ ap₂ (λ (low high : List ℕ). low ++ high) (sym front ∙ all) (sym back);
+      short = omega (arith, ap length back, length-drop (length page / block * block) page, div-add-mod' (length page) block, mod-lt (length page) some);
+      even = ap (λ (bytes : List ℕ). length bytes % block) (sym all) ∙ even;
+    }
+  where
+    even : length whole % block ≡ 0
+    even = ap (λ (n : ℕ). n % block) long ∙ mul-mod_left (length page / block) block
+
+    all : whole ≡ blocks
+    all = parts ∙ ap (λ (bytes : List ℕ). bytes ++ blocks) (nil_from_length before (none ∙ even))
 
 -- one block less
 pub even_below : (below block : ℕ) {n : ℕ} → n ≡ below + block → n % block ≡ 0 → below % block ≡ 0
@@ -137,14 +149,3 @@ fitting R far n even roomy =
 
 pub kept_same : (n : ℕ) (page : List ℕ) → Kept n page page
 kept_same n page = record { kept = λ j one h. refl }
-
-pub two_kept : (page left : List ℕ) → Kept 2 page left → two left ≡ two page
-two_kept page left k =
-    ap₂ (λ (x y : ℕ). record { s1 = x; s2 = y }) (k.kept 1 (omega arith) (omega arith)) (k.kept 2 (omega arith) (omega arith))
-
-pub four_kept : (page left : List ℕ) → Kept 4 page left → four left ≡ four page
-four_kept page left k =
-    ap₂ (λ (x y : ℕ). record { s1 = x; s2 = y; s3 = signature GF16 2 left 3; s4 = signature GF16 2 left 4 })
-    (k.kept 1 (omega arith) (omega arith)) (k.kept 2 (omega arith) (omega arith))
-    ∙ ap₂ (λ (x y : ℕ). record { s1 = signature GF16 2 page 1; s2 = signature GF16 2 page 2; s3 = x; s4 = y })
-    (k.kept 3 (omega arith) (omega arith)) (k.kept 4 (omega arith) (omega arith))

@@ -6,24 +6,16 @@ use mathlib.Core.List.{List, [], ◌∷◌}
 use Prim.Native.Nat.{ℕ, suc, ◌+◌, ◌≤◌, ◌<◌}
 use native.Mathlib.Nat.{eq-or-lt_of_le}
 use native.Mathlib.Omega.{arith}
-use lib.ListN.{length, get_or, set, length-set}
+use lib.ListN.{length, get_or, set}
 use lib.Seq.{get_or-set_same, get_or-set_other}
 use Rattle.field.specs.Field.{◌⊕◌}
 use Rattle.components.specs.Relations.{summed, gathered}
-use Rattle.components.specs.Windows.{Down}
 use Rattle.fold.specs.Folding.{Between}
 
 -- the places of the block from i on are done
 pub record Taken (os block before after : List ℕ) (i : ℕ) : Type 0 where
-  pub whole : length after ≡ length before
   pub turned : (k : ℕ) → i ≤ k → k < length block → get_or after k 0 ≡ gathered (get_or block k 0) os (λ m. get_or after m 0) k
   pub kept : (k : ℕ) → length block ≤ k → get_or after k 0 ≡ get_or before k 0
-
-pub taken_none : (os block before : List ℕ) → Taken os block before before (length block)
-taken_none os block before = record { whole = refl; turned = λ k h l. absurd (omega (arith, h, l)); kept = λ k h. refl }
-
-pub taken_all : (os block before after : List ℕ) {i : ℕ} → i ≡ 0 → Taken os block before after i → Down os block before after
-taken_all os block before after none t = record { turned = λ k h. t.turned k (omega (arith, none)) h; kept = t.kept }
 
 -- what is gathered above a place does not hang on it
 gathered_above : {half : ℕ} (os : List ℕ) → 0 < half → Between half os → (after : List ℕ) (i x y k : ℕ) → i ≤ k
@@ -38,7 +30,6 @@ pub taken_turn : {half : ℕ} (os : List ℕ) → 0 < half → Between half os �
     → x ≡ gathered (get_or block i 0) os (λ m. get_or after m 0) i → Taken os block before after top → Taken os block before (set after i x) i
 taken_turn os some far block before after i {top} {x} up inside-block inside-after here t =
     record {
-      whole = length-set after i x ∙ t.whole;
       turned = λ k h l. ⊎_elim (λ (e : i ≡ k). ap place (sym e) ∙ now_done ∙ ap rule e) (λ (m : i < k). later k m l) (eq-or-lt_of_le h);
       kept = λ k h. get_or-set_other after i k x 0 (λ e. absurd (omega (arith, h, e, inside-block))) ∙ t.kept k h;
     }

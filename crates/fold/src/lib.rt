@@ -30,6 +30,7 @@ trait Relation {
     // An object of no more bytes is not folded.
     const SHORT: usize;
 
+    // In bytes; a function, as a ghost member cannot name the type of a constant that is a slice.
     fn offsets() -> &'static [usize]
         ensures { result.now ≡ in_bytes known.offsets };
 
@@ -94,24 +95,24 @@ impl Relation for FourFar {
 pub fn first(object: &[u8]) -> u16
     ensures { result ≡ signature GF16 2 object.now 1 }
 {
-    of_few::<PairFar, 10068, _, _>(object, |few| words::first(few))
+    of_few::<PairFar, 10068, _, _>(object, words::first)
 }
 
 // Components 1 and 2.
 pub fn first_two(object: &[u8]) -> Two
     ensures { result ≡ two object.now }
 {
-    of_few::<PairFar, 10068, _, _>(object, |few| words::first_two(few))
+    of_few::<PairFar, 10068, _, _>(object, words::first_two)
 }
 
 // Components 1 to 4.
 pub fn first_four(object: &[u8]) -> Four
     ensures { result ≡ four object.now }
 {
-    of_few::<FourFar, 9784, _, _>(object, |few| words::first_four(few))
+    of_few::<FourFar, 9784, _, _>(object, words::first_four)
 }
 
-// What is answered of the object or, if it is long, of the few bytes that a relation leaves of it, in a window of so many.
+// What is answered of the object or, if it is long, of the few bytes that a relation leaves of it in a window of so many bytes.
 fn of_few<R: Relation, const WINDOW: usize, T, F: Fn(&[u8]) -> T>(object: &[u8], answer: F) -> T
     requires answers { F.IsAlwaysCallable answer }
     requires roomy { reach R.known + reach R.known ≤ WINDOW }

@@ -1,14 +1,12 @@
 -- `fold::fold` meets its contract. The invariant: the window stands for the page above the blocks that are left, which are whole.
 -- Assumes nothing.
-use mathlib.Core.Path.{◌≡◌, sym, ap, ap₂, ◌∙◌}
-use mathlib.Core.List.{List, ◌++◌}
-use Prim.Native.Nat.{ℕ, ◌+◌, ◌-◌, ◌*◌, ◌/◌, ◌%◌, ◌<◌}
-use native.Mathlib.Nat.{mul-mod_left}
+use mathlib.Core.Path.{◌≡◌, ap, ◌∙◌}
+use mathlib.Core.List.{List}
+use Prim.Native.Nat.{ℕ, ◌+◌, ◌-◌, ◌*◌, ◌<◌}
 use native.Mathlib.Omega.{arith}
 use lib.ListN.{length, length-append}
 use Rattle.std.specs.Slice.Exact.{rchunks_exact_rest}
-use Rattle.std.proofs.lemmas.List.{take-append-drop}
-use Rattle.fold.proofs.Standing.{standing_first, standing_further, standing_landed, cut_off, blocks_whole, even_below, none_below, raised}
+use Rattle.fold.proofs.Standing.{Cut, cut, even_below, none_below, raised, standing_first, standing_further, standing_landed}
 use Rattle.fold.proofs.fold.Goals as goal
 
 pub loop-part-init : goal.loop-part-init
@@ -17,17 +15,16 @@ loop-part-init g c =
     let fits : _ = c.requires in
     let parts : _ = c.split_at.ensures in
     let page : List ℕ = c.args.page.now in
+    let part : List ℕ = c.split_at.result.1.now in
     let block : ℕ = length c.args.window.now - c.REACH.result in
     let blocks : List ℕ = rchunks_exact_rest c.rchunks_exact-part-items.result in
     let even : block ≡ fits.block * 2 = omega (arith, fits.whole, c.REACH.ensures, law.reached) in
-    let whole : c.split_at.result.0.now ≡ blocks = blocks_whole (length page) block _ _ _ parts.front_len c.rchunks_exact-part-items.ensures.parts c.rchunks_exact-part-items.ensures.remainder_len in
+    let k : Cut page blocks part block = cut page _ part _ blocks block (omega (arith, even, fits.some)) parts.front parts.back parts.front_len c.rchunks_exact-part-items.ensures.parts c.rchunks_exact-part-items.ensures.remainder_len in
     rw c.into_iter-part-iterator.ensures.into_iter_gives (record {
-      stands = standing_first g.R.Relation.known g.R.Relation.up_to law.keeps c.args.window.now fits page (λ i. (c.type_inv.page i).fits) blocks c.split_at.result.1.now c.down.new.window
-          (sym (take-append-drop _ page) ∙ ap₂ (λ (low high : List ℕ). low ++ high) (sym parts.front ∙ whole) (sym parts.back))
-          (omega (arith, even, parts.back_len, parts.front_len, cut_off (length page) block (omega (arith, even, fits.some))))
-          (λ i. (c.type_inv.window i).fits) c.down.auto.window c.down.ensures;
+      stands = standing_first g.R.Relation.known g.R.Relation.up_to law.keeps c.args.window.now fits page (λ i. (c.type_inv.page i).fits) blocks part c.down.new.window
+          k.joined (omega (arith, even, k.short)) (λ i. (c.type_inv.window i).fits) c.down.auto.window c.down.ensures;
       size = c.rchunks_exact-part-items.ensures.size;
-      even = ap (λ (bytes : List ℕ). length bytes % block) (sym whole) ∙ ap (λ (n : ℕ). n % block) parts.front_len ∙ mul-mod_left (length page / block) block;
+      even = k.even;
       octets = λ i. (c.type_inv.window i).fits;
     })
 
