@@ -34,6 +34,7 @@ trait Relation {
     fn offsets() -> &'static [usize]
         ensures { result.now ≡ in_bytes known.offsets };
 
+    // What the loops rest on.
     ghost reached: { REACH ≡ reach known };
 
     ghost keeps: { Keeps up_to known };
