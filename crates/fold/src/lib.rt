@@ -30,7 +30,7 @@ trait Relation {
     // An object of no more bytes is not folded.
     const SHORT: usize;
 
-    // In bytes; a function, as a ghost member cannot name the type of a constant that is a slice.
+    // In bytes. A function, since the ghost member beside a constant that is a slice would have to give its address.
     fn offsets() -> &'static [usize]
         ensures { result.now ≡ in_bytes known.offsets };
 
