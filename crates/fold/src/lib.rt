@@ -1,188 +1,180 @@
 // The components of an object, without a product: a relation of α folds it by exclusive or alone until few symbols are left, and those are divided in words.
 #![tactic(auto)]
 
-ghost use Rattle.std.specs.Prelude.{◌≡◌, ℕ, ◌+◌, ◌-◌, ◌≤◌, ◌<◌, length, get_or, take};
+ghost use Rattle.std.specs.Prelude.{◌≡◌, ℕ, ◌+◌, ◌%◌, ◌≤◌, ◌<◌, List, length, get_or, take, refl};
+ghost use Rattle.std.specs.Fn.{FnReturnsAt};
+ghost use Rattle.std.proofs.Common.{rules};
 ghost use Rattle.components.specs.Relations.{gathered, in_bytes, pair_far, four_far};
-ghost use Rattle.components.specs.Windows.{Down, Landed, Raised};
+ghost use Rattle.components.specs.Relations.{Relation as Known};
+ghost use Rattle.components.specs.Windows.{Down, Landed};
 ghost use Rattle.components.specs.Components.{signature};
+ghost use Rattle.components.proofs.Relations.{Keeps, pair_far_keeps, four_far_keeps};
 ghost use Rattle.field.specs.Field.{GF16};
 ghost use Rattle.words.specs.Rows.{two, four};
-ghost use Rattle.fold.specs.Folding.{known, reach, Fits, Kept, Added};
+ghost use Rattle.fold.specs.Folding.{reach, Far, Fits, Kept, Added};
 
 use words::{Four, Two};
 
-// Relations of α, for two components and for four.
-#[derive(Clone, Copy)]
-pub enum Relation {
-    PairFar,
-    FourFar,
+// A relation of α by which long objects are folded.
+trait Relation {
+    ghost known: { Known };
+
+    // For how many components it holds.
+    ghost up_to: { ℕ };
+
+    // The bytes that it leaves.
+    ghost REACH: { ℕ };
+
+    const REACH: usize;
+
+    // An object of no more bytes is not folded.
+    const SHORT: usize;
+
+    // In bytes. A function, since the ghost member beside a constant that is a slice would have to give its address.
+    fn offsets() -> &'static [usize]
+        ensures { result.now ≡ in_bytes known.offsets };
+
+    // What the loops rest on.
+    ghost reached: { REACH ≡ reach known };
+
+    ghost keeps: { Keeps up_to known };
+
+    ghost far: { Far known };
+}
+
+// x^938 = x^186 + 1
+struct PairFar;
+
+impl Relation for PairFar {
+    ghost known = { pair_far };
+
+    ghost up_to = { 2 };
+
+    ghost REACH = { 1876 };
+
+    const REACH: usize = 1876;
+
+    const SHORT: usize = 4096;
+
+    ghost reached = { refl };
+
+    ghost keeps = { pair_far_keeps };
+
+    ghost far = { Prim.search rules };
+
+    fn offsets() -> &'static [usize] {
+        &[1504, 1876]
+    }
+}
+
+// x^796 = x^241 + x^83 + x^80 + 1
+struct FourFar;
+
+impl Relation for FourFar {
+    ghost known = { four_far };
+
+    ghost up_to = { 4 };
+
+    ghost REACH = { 1592 };
+
+    const REACH: usize = 1592;
+
+    const SHORT: usize = 2048;
+
+    ghost reached = { refl };
+
+    ghost keeps = { four_far_keeps };
+
+    ghost far = { Prim.search rules };
+
+    fn offsets() -> &'static [usize] {
+        &[1110, 1426, 1432, 1592]
+    }
 }
 
 // Component 1.
 pub fn first(object: &[u8]) -> u16
     ensures { result ≡ signature GF16 2 object.now 1 }
 {
-    if object.len() <= 4096 {
-        return words::first(object);
-    }
-    let mut window = [0u8; 10068];
-    fold(Relation::PairFar, object, &mut window);
-    words::first(lowest(&window, 1876))
+    of_few::<PairFar, 10068, _, _>(object, words::first)
 }
 
 // Components 1 and 2.
 pub fn first_two(object: &[u8]) -> Two
     ensures { result ≡ two object.now }
 {
-    if object.len() <= 4096 {
-        return words::first_two(object);
-    }
-    let mut window = [0u8; 10068];
-    fold(Relation::PairFar, object, &mut window);
-    words::first_two(lowest(&window, 1876))
+    of_few::<PairFar, 10068, _, _>(object, words::first_two)
 }
 
 // Components 1 to 4.
 pub fn first_four(object: &[u8]) -> Four
     ensures { result ≡ four object.now }
 {
-    if object.len() <= 2048 {
-        return words::first_four(object);
+    of_few::<FourFar, 9784, _, _>(object, words::first_four)
+}
+
+// What is answered of the object or, if it is long, of the few bytes that a relation leaves of it in a window of so many bytes.
+fn of_few<R: Relation, const WINDOW: usize, T, F: Fn(&[u8]) -> T>(object: &[u8], answer: F) -> T
+    requires answers { F.IsAlwaysCallable answer }
+    requires roomy { reach R.known + reach R.known ≤ WINDOW }
+    requires even { WINDOW % 2 ≡ 0 }
+    requires small { WINDOW < 65536 }
+    ensures { (few : List ℕ) × Kept R.up_to object.now few × FnReturnsAt F.Fn answer few result }
+{
+    if object.len() <= R::SHORT {
+        return answer(object);
     }
-    let mut window = [0u8; 9784];
-    fold(Relation::FourFar, object, &mut window);
-    words::first_four(lowest(&window, 1592))
+    let mut window = [0u8; WINDOW];
+    fold::<R>(object, &mut window);
+    answer(&window[..R::REACH])
 }
 
-fn lowest(window: &[u8], reach: usize) -> &[u8]
-    requires { reach ≤ length window.now }
-    ensures { result.now ≡ take reach window.now }
+// The cut-off block first, then the whole blocks, from the top down; the window's lowest bytes are then left, symbols of the same components.
+fn fold<R: Relation>(page: &[u8], window: &mut [u8])
+    requires { Fits R.known window.old }
+    ensures { Kept R.up_to page.now (take R.REACH window.new) }
 {
-    &window[..reach]
-}
-
-// The page is taken in block by block, from the top down; the window's lowest bytes are then left, symbols of the same components.
-fn fold(r: Relation, page: &[u8], window: &mut [u8])
-    requires { Fits r window.old }
-    ensures { Kept r page.now (take (reach r) window.new) }
-{
-    let reach = reach_of(r);
-    let block = window.len() - reach;
-    let mut at = page.len() / block * block;
-    down(r, &page[at..], window);
-    while at > 0 {
-        at = below(at, block);
-        raise(block, reach, window);
-        down(r, &page[at..at + block], window);
+    let block = window.len() - R::REACH;
+    let (whole, rest) = page.split_at(page.len() / block * block);
+    down::<R>(rest, window);
+    for part in whole.rchunks_exact(block) {
+        // What it held makes room for the part.
+        window.copy_within(..R::REACH, block);
+        down::<R>(part, window);
     }
-    land(r, window);
+    land::<R>(window);
 }
 
-// A block less. By a function of its own, since a place that falls by a plain difference keeps the compiler from vectors where a block is taken in.
-fn below(at: usize, block: usize) -> usize
-    ensures { result ≡ at - block }
+// A block is taken into a window, from its top down.
+fn down<R: Relation>(block: &[u8], window: &mut [u8])
+    requires { length block.now + R.REACH ≤ length window.old }
+    ensures { Down (in_bytes R.known.offsets) block.now window.old window.new }
 {
-    if at < block { 0 } else { at - block }
-}
-
-// The bytes that a relation leaves.
-fn reach_of(r: Relation) -> usize
-    ensures { result ≡ reach r }
-{
-    match r {
-        Relation::PairFar => 1876,
-        Relation::FourFar => 1592,
+    for i in (0..block.len()).rev() {
+        window[i] = gather::<R>(block[i], window, i);
     }
 }
 
-// The first bytes of the window make room for a block.
-fn raise(up: usize, reach: usize, window: &mut [u8])
-    requires { (reach ≤ up) × (up + reach ≤ length window.old) }
-    ensures { Raised up reach window.old window.new }
+// x and what stands at each offset above i, summed.
+fn gather<R: Relation>(x: u8, window: &[u8], i: usize) -> u8
+    requires { i + R.REACH < length window.now }
+    ensures { result ≡ gathered x (in_bytes R.known.offsets) (λ k. get_or window.now k 0) i }
 {
-    let mut i: usize = 0;
-    while i < reach {
-        window[up + i] = window[i];
-        i += 1;
+    let mut sum = x;
+    for offset in R::offsets() {
+        sum ^= window[i + *offset];
     }
+    sum
 }
 
-// ---- A block is taken into a window, from its top down: one loop for each relation, so that its offsets are constants and the loop runs on vectors.
-
-fn down(r: Relation, block: &[u8], window: &mut [u8])
-    requires { length block.now + reach r ≤ length window.old }
-    ensures { Down (in_bytes (known r).offsets) block.now window.old window.new }
+// What a window leaves: its lowest bytes, and those that stand at each offset above them, summed.
+fn land<R: Relation>(window: &mut [u8])
+    requires { R.REACH ≤ length window.old }
+    ensures { Landed (in_bytes R.known.offsets) R.REACH window.old window.new }
 {
-    match r {
-        Relation::PairFar => down_pair_far(block, window),
-        Relation::FourFar => down_four_far(block, window),
+    for offset in R::offsets() {
+        add(window, *offset, R::REACH);
     }
-}
-
-// x^938 = x^186 + 1
-fn gather_pair_far(x: u8, window: &[u8], i: usize) -> u8
-    requires { i + 1876 < length window.now }
-    ensures { result ≡ gathered x (in_bytes pair_far.offsets) (λ k. get_or window.now k 0) i }
-{
-    x ^ window[i + 1504] ^ window[i + 1876]
-}
-
-fn down_pair_far(block: &[u8], window: &mut [u8])
-    requires { length block.now + 1876 ≤ length window.old }
-    ensures { Down (in_bytes pair_far.offsets) block.now window.old window.new }
-{
-    let mut i = block.len();
-    while i > 0 {
-        i -= 1;
-        window[i] = gather_pair_far(block[i], window, i);
-    }
-}
-
-// x^796 = x^241 + x^83 + x^80 + 1
-fn gather_four_far(x: u8, window: &[u8], i: usize) -> u8
-    requires { i + 1592 < length window.now }
-    ensures { result ≡ gathered x (in_bytes four_far.offsets) (λ k. get_or window.now k 0) i }
-{
-    x ^ window[i + 1110] ^ window[i + 1426] ^ window[i + 1432] ^ window[i + 1592]
-}
-
-fn down_four_far(block: &[u8], window: &mut [u8])
-    requires { length block.now + 1592 ≤ length window.old }
-    ensures { Down (in_bytes four_far.offsets) block.now window.old window.new }
-{
-    let mut i = block.len();
-    while i > 0 {
-        i -= 1;
-        window[i] = gather_four_far(block[i], window, i);
-    }
-}
-
-// ---- What a window leaves: its lowest bytes, and those that stand at each offset above them, summed.
-
-fn land(r: Relation, window: &mut [u8])
-    requires { reach r ≤ length window.old }
-    ensures { Landed (in_bytes (known r).offsets) (reach r) window.old window.new }
-{
-    match r {
-        Relation::PairFar => land_pair_far(window),
-        Relation::FourFar => land_four_far(window),
-    }
-}
-
-fn land_pair_far(window: &mut [u8])
-    requires { 1876 ≤ length window.old }
-    ensures { Landed (in_bytes pair_far.offsets) 1876 window.old window.new }
-{
-    add(window, 1504, 1876);
-}
-
-fn land_four_far(window: &mut [u8])
-    requires { 1592 ≤ length window.old }
-    ensures { Landed (in_bytes four_far.offsets) 1592 window.old window.new }
-{
-    add(window, 1110, 1592);
-    add(window, 1426, 1592);
-    add(window, 1432, 1592);
 }
 
 // What the window holds from one place to another, added to its first bytes.
@@ -190,10 +182,7 @@ fn add(window: &mut [u8], from: usize, to: usize)
     requires { (from ≤ to) × (to ≤ length window.old) }
     ensures { Added from to window.old window.new }
 {
-    let count = to - from;
-    let mut i: usize = 0;
-    while i < count {
-        window[i] = window[i] ^ window[from + i];
-        i += 1;
+    for i in 0..to - from {
+        window[i] ^= window[from + i];
     }
 }

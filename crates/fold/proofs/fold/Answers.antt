@@ -1,91 +1,61 @@
--- `fold::fold` meets its contract. The invariant: the window stands for the page from `at` on, and whole blocks are left below.
+-- `fold::fold` meets its contract. The invariant: the window stands for the page above the blocks that are left, which are whole.
 -- Assumes nothing.
-use Rattle.fold.proofs.Standing.{standing_first, standing_further, standing_landed, blocks_whole, blocks_rest, blocks_even, block_below, even_below, part_rest, part_next}
-use Rattle.fold.specs.Folding.{reach, Fits}
-use Rattle.fold.specs.declared.Relation.{Relation}
-use lib.ListN.{length, take, drop}
-use native.Mathlib.Omega.{arith}
-use Prim.Native.Nat.{ℕ, ◌+◌, ◌-◌, ◌*◌, ◌/◌, ◌%◌, ◌≤◌, ◌<◌}
+use mathlib.Core.Path.{◌≡◌, ap, ◌∙◌}
 use mathlib.Core.List.{List}
-use mathlib.Core.Path.{◌≡◌, refl, ap, ◌∙◌}
+use Prim.Native.Nat.{ℕ, ◌+◌, ◌-◌, ◌*◌, ◌<◌}
+use native.Mathlib.Omega.{arith}
+use lib.ListN.{length, length-append}
+use Rattle.std.specs.Slice.Exact.{rchunks_exact_rest}
+use Rattle.fold.proofs.Standing.{Cut, cut, even_below, none_below, raised, standing_first, standing_further, standing_landed}
 use Rattle.fold.proofs.fold.Goals as goal
 
--- what is known of a page of n bytes, cut into blocks
-record Cut (r : Relation) (window : List ℕ) (fits : Fits r window) (block n : ℕ) : Type 0 where
-  even : block ≡ fits.block * 2
-  some : 0 < block
-  roomy : reach r ≤ block
-  all : block + reach r ≡ length window
-  whole : n / block * block ≤ n
-  rest : n ≤ n / block * block + block
+pub loop-part-init : goal.loop-part-init
+loop-part-init g c =
+    let law : _ = g.met.R.Relation in
+    let fits : _ = c.requires in
+    let page : List ℕ = c.args.page.now in
+    let part : List ℕ = c.split_at.result.1.now in
+    let block : ℕ = length c.args.window.now - c.REACH.result in
+    let blocks : List ℕ = rchunks_exact_rest c.rchunks_exact-part-items.result in
+    let even : block ≡ fits.block * 2 = omega (arith, fits.whole, c.REACH.ensures, law.reached) in
+    let k : Cut page blocks part block = cut page _ part _ blocks block (omega (arith, even, fits.some))
+    c.split_at.ensures.front c.split_at.ensures.back c.split_at.ensures.front_len c.rchunks_exact-part-items.ensures.parts c.rchunks_exact-part-items.ensures.remainder_len in
+    rw c.into_iter-part-iterator.ensures.into_iter_gives (record {
+      stands = standing_first g.R.Relation.known g.R.Relation.up_to law.keeps c.args.window.now fits page (λ i. (c.type_inv.page i).fits) blocks part c.down.new.window
+          k.joined (omega (arith, even, k.short)) (λ i. (c.type_inv.window i).fits) c.down.auto.window c.down.ensures;
+      size = c.rchunks_exact-part-items.ensures.size;
+      even = k.even;
+      octets = λ i. (c.type_inv.window i).fits;
+    })
 
-cut : {r : Relation} {window : List ℕ} (fits : Fits r window) {bytes : ℕ} (n : ℕ) → bytes ≡ reach r → Cut r window fits (length window - bytes) n
-cut {r} {window} fits {bytes} n e =
-    let some : 0 < length window - bytes = omega (arith, fits.whole, fits.some, e) in
+pub loop-part-preserved : goal.loop-part-preserved
+loop-part-preserved g c =
+    let law : _ = g.met.R.Relation in
+    let fits : _ = c.requires in
+    let turn : _ = c.loop-part in
+    let block : ℕ = length c.args.window.now - c.REACH.result in
+    let rest : List ℕ = rchunks_exact_rest turn.part-iterator in
+    let below : List ℕ = rchunks_exact_rest c.next.new.self in
+    let even : block ≡ fits.block * 2 = omega (arith, fits.whole, c.REACH.ensures, law.reached) in
+    let long : length c.in-Some.part.now ≡ block = c.in-Some.ensures.steps.2.1 ∙ turn.invariant.size in
+    let one : length rest ≡ length below + block = ap length c.in-Some.ensures.steps.2.0 ∙ length-append below c.in-Some.part.now ∙ ap (λ (n : ℕ). length below + n) long in
     record {
-      even = omega (arith, fits.whole, e);
-      some = some;
-      roomy = omega (arith, fits.whole, fits.roomy, e);
-      all = omega (arith, fits.whole, e);
-      whole = blocks_whole n (length window - bytes) some;
-      rest = blocks_rest n (length window - bytes) some;
+      stands = standing_further g.R.Relation.known g.R.Relation.up_to law.keeps c.args.window.now fits c.args.page.now (λ i. (c.type_inv.page i).fits) rest below c.in-Some.part.now
+          turn.window c.copy_within.new.self c.down-in-loop-part.new.window even (c.REACH-in-loop-part.ensures ∙ law.reached) c.in-Some.ensures.steps.2.0 long
+          (λ i. (c.type_inv.window i).fits) (omega arith)
+          (raised block _ _ _ c.copy_within.ensures.by_index.0) c.down-in-loop-part.ensures turn.invariant.stands;
+      size = c.in-Some.ensures.steps.0 ∙ turn.invariant.size;
+      even = even_below (length below) block one turn.invariant.even;
+      octets = λ i. (c.type_inv.window i).fits;
     }
 
-pub loop-at-init : goal.loop-at-init
-loop-at-init c =
-    let known : _ = c.shared_slice_known-1 in
-    let args : _ = c.args in
-    let pre : _ = c.requires in
-    let reached : _ = c.reach_of-reach in
-    let taken : _ = c.down in
-    let page : List ℕ = args.page.now in
-    let block : ℕ = length args.window.now - reached.result in
-    let at : ℕ = length page / block * block in
-    let k : _ = cut pre (length page) reached.ensures in (
-      standing_first args.r args.window.now pre page (λ i. (known.given i).fits) _ _ at (part_rest at page)
-          (λ i. (c.slice_known-2-1.given i).fits) c.window-1.given k.whole (omega (arith, k.rest, k.even)) taken.ensures,
-      blocks_even (length page) block,
-      k.whole,
-      refl,
-      λ i. (c.slice_known-2-1.given i).fits,
-    )
-
-pub loop-at-preserved : goal.loop-at-preserved
-loop-at-preserved c =
-    let known : _ = c.shared_slice_known-1 in
-    let args : _ = c.args in
-    let pre : _ = c.requires in
-    let reached : _ = c.reach_of-reach in
-    let first-window : _ = c.window-1 in
-    let turn : _ = c.loop-at in
-    let lower : _ = c.below-at in
-    let raised : _ = c.raise in
-    let raised-window : _ = c.window-in-loop-at-1 in
-    let taken_in : _ = c.down-in-loop-at in
-    let page : List ℕ = args.page.now in
-    let block : ℕ = length args.window.now - reached.result in
-    let at : ℕ = lower.result in
-    let k : _ = cut pre (length page) reached.ensures in
-    let h : block ≤ turn.at = block_below turn.at block turn.invariant.1 (omega arith) in
-    let next : turn.at ≡ at + block = omega (arith, h, lower.ensures) in (
-      standing_further args.r args.window.now pre page (λ i. (known.given i).fits) turn.window _ _ _ at _ block _ k.even reached.ensures
-          (part_next at block page ∙ ap (λ (n : ℕ). take n (drop at page)) k.even) (next ∙ ap (λ (n : ℕ). at + n) k.even)
-          (λ i. (c.slice_known-in-loop-at-2-1.given i).fits) (c.window-in-loop-at-2-1.given ∙ raised-window.given ∙ turn.invariant.3 ∙ first-window.given) (omega (arith, next, k.even, turn.invariant.2))
-          turn.invariant.0 raised.ensures taken_in.ensures,
-      ap (λ (n : ℕ). n % block) lower.ensures ∙ even_below turn.at block turn.invariant.1 h,
-      omega (arith, next, turn.invariant.2),
-      c.window-in-loop-at-2-1.given ∙ raised-window.given ∙ turn.invariant.3,
-      λ i. (c.slice_known-in-loop-at-2-1.given i).fits,
-    )
-
 pub returns : goal.returns
-returns c =
-    let args : _ = c.args in
-    let pre : _ = c.requires in
-    let reached : _ = c.reach_of-reach in
-    let first-window : _ = c.window-1 in
-    let turn : _ = c.loop-at in
-    let landed : _ = c.land in
-    let k : _ = cut pre (length args.page.now) reached.ensures in
-    standing_landed args.r args.page.now turn.window _ (omega arith) turn.invariant.4 (omega (arith, k.all, c.window-2-1.given ∙ turn.invariant.3 ∙ first-window.given))
-    turn.invariant.0 landed.ensures
+returns g c =
+    let law : _ = g.met.R.Relation in
+    let fits : _ = c.requires in
+    let turn : _ = c.loop-part in
+    let block : ℕ = length c.args.window.now - c.REACH.result in
+    let rest : List ℕ = rchunks_exact_rest turn.part-iterator in
+    let short : length rest < block = omega (arith, c.in-None.ensures.steps.2.0, turn.invariant.size) in
+    standing_landed g.R.Relation.known g.R.Relation.up_to c.args.page.now rest turn.window c.land.new.window (none_below (length rest) block turn.invariant.even short) law.reached
+    turn.invariant.octets (omega (arith, fits.whole, law.reached)) turn.invariant.stands c.land.ensures
