@@ -1,19 +1,22 @@
--- Sums that are not reduced yet: one that is shifted over another, the sum of a word's symbols, and that of a row.
+-- Sums that are not reduced yet: one that is shifted over another, the sum of a word's symbols, that of a row, and that of words from the last one down.
 -- Assumes nothing.
 use mathlib.Core.Path.{◌≡◌, refl, sym, ap, ap₂, ◌∙◌, subst}
-use mathlib.Core.List.{List, [], ◌∷◌}
-use Prim.Native.Nat.{ℕ, ◌+◌, ◌*◌, ◌/◌, ◌%◌, ◌^◌, ◌≤◌, ◌<◌}
-use native.Mathlib.Nat.{mod-eq_of_lt, lt_of_lt_of_le, mul_comm, mul-one, div-one}
+use mathlib.Core.List.{List, [], ◌∷◌, ◌++◌}
+use Prim.Native.Nat.{ℕ, suc, ◌+◌, ◌*◌, ◌/◌, ◌%◌, ◌^◌, ◌≤◌, ◌<◌}
+use native.Mathlib.Nat.{mod-eq_of_lt, lt_of_lt_of_le, mul_comm, mul-one, div-one, mul-add, mul-le-mul_left}
 use native.Mathlib.Omega.{arith}
-use lib.Pow.{pow_mono, shl_lt, shr_mod}
+use lib.ListN.{length, length-take, length-append, take, drop, take-append-drop}
+use Rattle.std.proofs.Common.{append-nil}
+use Rattle.std.proofs.Math.Seq.{append_snoc}
+use lib.Pow.{pow_pos, pow_mono, shl_lt, shr_mod}
 use Rattle.field.specs.Field.{GF16, ◌⊕◌, reduced, product, power, α}
-use Rattle.field.proofs.Sums.{sum_lt}
+use Rattle.field.proofs.Sums.{sum_lt, sum_zero}
 use Rattle.field.proofs.Reducing.{reduced_below}
 use Rattle.field.proofs.Instances.{GF16_formed}
 use Rattle.components.specs.Components.{component}
 use Rattle.components.specs.Words.{within, of_word, of_words}
 use Rattle.components.proofs.Components.{component_one, component_parts}
-use Rattle.components.proofs.Words.{within_element, one_word}
+use Rattle.components.proofs.Words.{◌⊞◌, lifted, words_sum, lifted_words, within_element, one_word}
 use Rattle.words.specs.Rows.{Stands}
 use Rattle.words.proofs.Reducing.{step}
 
@@ -89,3 +92,54 @@ unfolding of_words
 row_stands word j k n words {s} {b} above under grown wide most =
     subst (λ (e : ℕ). Stands (of_word j word ⊕ product GF16 (of_words j words) (power GF16 α e)) n (s * 2 ^ (4 * j) % 2 ^ 64 ⊕ b)) (mul_comm 4 j)
     (joined (4 * j) k (16 + 3 * j) n above under grown wide most)
+
+-- words below others
+words_above : (xs ys : List ℕ) → xs ++ ys ≡ xs ⊞ lifted (length xs) ys
+unfolding ◌⊞◌ lifted
+words_above [] ys = refl
+words_above (x ∷ xs) ys = ap₂ (λ (w : ℕ) (ws : List ℕ). w ∷ ws) (sym (sum_zero x)) (words_above xs ys)
+
+pub four_below : (j : ℕ) (words : List ℕ) → 4 ≤ length words
+    → of_words j words ≡ of_words j (take 4 words) ⊕ product GF16 (of_words j (drop 4 words)) (power GF16 α (j * 16))
+four_below j words room =
+    ap (of_words j) (sym (take-append-drop 4 words) ∙ words_above (take 4 words) (drop 4 words))
+    ∙ words_sum j (take 4 words) (lifted (length (take 4 words)) (drop 4 words))
+    ∙ ap (λ (x : ℕ). of_words j (take 4 words) ⊕ x) (lifted_words j (length (take 4 words)) (drop 4 words) ∙ ap (λ (q : ℕ). product GF16 (of_words j (drop 4 words)) (power GF16 α (j * (4 * q)))) {y = 4} (omega (arith, room, length-take 4 words)))
+
+-- ---- words from the last one down
+
+-- the sum of the words above those that are left
+pub record Summed (j : ℕ) (words left : List ℕ) (s : ℕ) : Type 0 where
+  pub above : List ℕ
+  pub whole : words ≡ left ++ above
+  pub stands : Stands (of_words j above) (16 + j * (4 * length above)) s
+
+pub summed_none : (j : ℕ) (words : List ℕ) {left : List ℕ} → left ≡ words → Summed j words left 0
+unfolding of_words
+summed_none j words {left} e =
+    record { above = []; whole = sym (append-nil left ∙ e); stands = record { comes = reduced_below GF16 48 (pow_pos 16); below = pow_pos (16 + j * 0) } }
+
+pub summed_more : (j : ℕ) (words left : List ℕ) (word : ℕ) {before : List ℕ} {s b : ℕ} → before ≡ left ++ (word ∷ []) → j * (4 * length words) ≤ 48 → Stands (of_word j word) (16 + 3 * j) b
+    → Summed j words before s → Summed j words left (s * 2 ^ (4 * j) % 2 ^ 64 ⊕ b)
+summed_more j words left word e room one sum =
+    record {
+      above = word ∷ sum.above;
+      whole = whole;
+      stands = row_stands word j (16 + j * (4 * length sum.above)) (16 + j * (4 * suc (length sum.above))) sum.above sum.stands one (omega (arith, more)) (omega (arith, more)) (omega (arith, most, room));
+    }
+  where
+    whole : words ≡ left ++ (word ∷ sum.above)
+    whole = sum.whole ∙ ap (λ (ws : List ℕ). ws ++ sum.above) e ∙ append_snoc left word sum.above
+
+    more : j * (4 * suc (length sum.above)) ≡ j * (4 * length sum.above) + 4 * j
+    more = ap (λ (n : ℕ). j * n) (four (length sum.above)) ∙ mul-add j (4 * length sum.above) 4 ∙ ap (λ (n : ℕ). j * (4 * length sum.above) + n) (mul_comm j 4)
+      where
+        four : (n : ℕ) → 4 * suc n ≡ 4 * n + 4
+        four n = omega arith
+
+    most : j * (4 * suc (length sum.above)) ≤ j * (4 * length words)
+    most = mul-le-mul_left j (omega (arith, ap length whole, length-append left (word ∷ sum.above)))
+
+pub summed_all : (j : ℕ) (words left : List ℕ) {s : ℕ} → length left ≡ 0 → Summed j words left s → Stands (of_words j words) (16 + j * (4 * length words)) s
+summed_all j words [] none sum = subst (λ (ws : List ℕ). Stands (of_words j ws) (16 + j * (4 * length ws)) _) (sym sum.whole) sum.stands
+summed_all j words (word ∷ left) none sum = absurd (omega (arith, none))
