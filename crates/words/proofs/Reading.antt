@@ -2,16 +2,20 @@
 -- Assumes nothing.
 use mathlib.Core.Path.{◌≡◌, refl, sym, ap, ap₂, ◌∙◌}
 use mathlib.Core.Logic.{dite}
-use mathlib.Core.List.{List, [], ◌∷◌, ◌++◌}
-use Prim.Native.Nat.{ℕ, zero, suc, ◌+◌, ◌*◌, ◌/◌, ◌≤◌, ◌<◌}
+use mathlib.Core.List.{List, reverse, reverse-cons, [], ◌∷◌, ◌++◌}
+use Prim.Native.Nat.{ℕ, zero, suc, ◌+◌, ◌*◌, ◌/◌, ◌^◌, ◌%◌, ◌≤◌, ◌<◌}
 use native.Mathlib.Decide.{dec_lt}
+use native.Mathlib.Nat.{lt_of_lt_of_le, pow-le-pow_right}
 use native.Mathlib.Omega.{arith}
 use lib.ListN.{length, get_or, get_or-eq_default, get_or-replicate, replicate, length-replicate, length-take, take, drop, set}
 use lib.Seq.{get_or-take, get_or-drop, get_or-set_same, get_or-set_other, drop-drop}
 use Rattle.std.proofs.lemmas.List.{length_push, get_or_push, get_or_append_left}
+use Rattle.std.proofs.lemmas.List.Sums.{fold-append}
+use Rattle.std.specs.List.{fold}
 use Rattle.std.specs.Int.{w64, from_le_bytes}
 use Rattle.std.specs.Simd.{first_chunks}
-use Rattle.components.specs.Objects.{low_first}
+use Rattle.components.specs.Objects.{Octets, low_first}
+use Rattle.components.proofs.Octets.{low_first_lt}
 
 -- ---- one word
 
@@ -38,18 +42,32 @@ low : (bytes : List ℕ) → from_le_bytes w64 bytes ≡ low_first 8 bytes 0
 unfolding low_first
 low bytes = omega arith
 
--- bytes, and zeros above them
-pub padded_read : (bytes zeros : List ℕ) → ((i : ℕ) → get_or zeros i 0 ≡ 0) → from_le_bytes w64 (bytes ++ zeros) ≡ low_first 8 bytes 0
-padded_read bytes zeros none =
-    low (bytes ++ zeros) ∙ low_first_same 8 (bytes ++ zeros) bytes 0 0 (λ m n above below e. padded bytes m ∙ ap (λ (k : ℕ). get_or bytes k 0) (omega (arith, e)))
-  where
-    padded : (xs : List ℕ) (i : ℕ) → get_or (xs ++ zeros) i 0 ≡ get_or xs i 0
-    padded [] i = none i
-    padded (x ∷ xs) zero = refl
-    padded (x ∷ xs) (suc i) = padded xs i
+-- ---- a word that is cut off, from the last byte down
 
-pub zero_at : (n i : ℕ) → get_or {A = ℕ} (replicate n 0) i 0 ≡ 0
-zero_at n i = dite (dec_lt i n) (λ (inside : i < n). get_or-replicate n i 0 0 inside) (λ past. get_or-eq_default (replicate n 0) 0 (omega (arith, length-replicate {A = ℕ} n 0)))
+abbrev pub byte_above : ℕ → ℕ → ℕ
+byte_above x byte = x * 256 % 2 ^ 64 + byte
+
+pub bytes_folded : (size : ℕ) (bytes : List ℕ) → length bytes ≤ size → size ≤ 8 → Octets bytes → fold byte_above 0 (reverse bytes) ≡ low_first size bytes 0
+unfolding low_first
+bytes_folded size [] short few octets = sym (none_read size [] 0 (omega arith))
+bytes_folded zero (byte ∷ bytes) short few octets = absurd (omega (arith, short))
+bytes_folded (suc size) (byte ∷ bytes) short few octets =
+    ap (fold byte_above 0) (reverse-cons byte bytes)
+    ∙ fold-append byte_above 0 (reverse bytes) (byte ∷ [])
+    ∙ ap (λ (x : ℕ). byte_above x byte) (bytes_folded size bytes (omega (arith, short)) (omega (arith, few)) (λ i. octets (suc i)) ∙ low_first_same size bytes (byte ∷ bytes) 0 1 (λ m n above below e. ap (λ (k : ℕ). get_or (byte ∷ bytes) k 0) {x = suc m} (omega (arith, e))))
+    ∙ joined
+  where
+    above : ℕ
+    above = low_first size (byte ∷ bytes) 1
+
+    seven : size ≤ 7
+    seven = omega (arith, few)
+
+    room : above < 256 ^ 7
+    room = lt_of_lt_of_le (low_first_lt size (byte ∷ bytes) 1 octets) (pow-le-pow_right (omega arith) seven)
+
+    joined : byte_above above byte ≡ low_first (suc size) (byte ∷ bytes) 0
+    joined = omega (arith, room)
 
 -- ---- whole words
 
@@ -106,6 +124,9 @@ cut_read object count e here =
     here ∙ ap (λ (bytes : List ℕ). low_first 8 bytes 0) e ∙ low_drop (length object / 8 * 8) object ∙ ap (λ (k : ℕ). low_first 8 object (k * 8)) (sym count)
 
 -- ---- words that are read one after the other
+
+zero_at : (n i : ℕ) → get_or {A = ℕ} (replicate n 0) i 0 ≡ 0
+zero_at n i = dite (dec_lt i n) (λ (inside : i < n). get_or-replicate n i 0 0 inside) (λ past. get_or-eq_default (replicate n 0) 0 (omega (arith, length-replicate {A = ℕ} n 0)))
 
 -- the first i words are an object's, and those above them are zeros
 pub record Taken (object : List ℕ) (i : ℕ) (words : List ℕ) : Type 0 where

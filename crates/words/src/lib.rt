@@ -175,13 +175,12 @@ fn words_of<const W: usize>(object: &[u8]) -> [u64; W]
     words
 }
 
+// Byte by byte, from the last one down.
 fn cut_word(bytes: &[u8]) -> u64
     requires { length bytes.now ≤ 8 }
     ensures { result ≡ low_first 8 bytes.now 0 }
 {
-    let mut eight = [0; 8];
-    eight[..bytes.len()].copy_from_slice(bytes);
-    u64::from_le_bytes(eight)
+    bytes.iter().rev().fold(0, |x, b| (x << 8) + u64::from(*b))
 }
 
 // ---- The components of a few words.
