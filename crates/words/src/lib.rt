@@ -47,11 +47,12 @@ pub fn first_two(object: &[u8]) -> Two
 pub fn first_four(object: &[u8]) -> Four
     ensures { result ≡ four object.now }
 {
+    let long: LongRow = left(object);
     let r: Row = left(object);
     Four {
         s1: reduced(few_words(&r, 1)),
         s2: reduced(few_words(&r, 2)),
-        s3: third(left(object)),
+        s3: third(long),
         s4: fourth(r),
     }
 }

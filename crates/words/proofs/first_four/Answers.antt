@@ -16,5 +16,5 @@ returns c =
     (stands_reduced c.few_words.ensures c.reduced.ensures ∙ left 1 own_1)
     (stands_reduced c.few_words-2.ensures c.reduced-2.ensures ∙ left 2 own_2)
     ∙ ap₂ (λ (x y : ℕ). record { s1 = signature GF16 2 object 1; s2 = signature GF16 2 object 2; s3 = x; s4 = y })
-    (c.third.ensures ∙ c.left.ensures 3 third_3)
+    (c.third.ensures ∙ c.left-long.ensures 3 third_3)
     (c.fourth.ensures ∙ left 4 own_4)
