@@ -5,18 +5,19 @@ use mathlib.Core.List.{List, [], ◌∷◌, ◌++◌}
 use Prim.Native.Nat.{ℕ, suc, ◌+◌, ◌*◌, ◌/◌, ◌%◌, ◌^◌, ◌≤◌, ◌<◌}
 use native.Mathlib.Nat.{mod-eq_of_lt, lt_of_lt_of_le, mul_comm, mul-one, div-one, mul-add, mul-le-mul_left}
 use native.Mathlib.Omega.{arith}
-use lib.ListN.{length, length-take, length-append, take, drop, take-append-drop}
+use lib.ListN.{length, length-append, take, drop}
 use Rattle.std.proofs.Common.{append-nil}
 use Rattle.std.proofs.Math.Seq.{append_snoc}
 use lib.Pow.{pow_pos, pow_mono, shl_lt, shr_mod}
 use Rattle.field.specs.Field.{GF16, ◌⊕◌, reduced, product, power, α}
-use Rattle.field.proofs.Sums.{sum_lt, sum_zero}
+use Rattle.field.proofs.Sums.{sum_lt}
 use Rattle.field.proofs.Reducing.{reduced_below}
 use Rattle.field.proofs.Instances.{GF16_formed}
 use Rattle.components.specs.Components.{component}
 use Rattle.components.specs.Words.{within, of_word, of_words}
 use Rattle.components.proofs.Components.{component_one, component_parts}
-use Rattle.components.proofs.Words.{◌⊞◌, lifted, words_sum, lifted_words, within_element, one_word}
+use Rattle.components.proofs.Division.{rows_joined}
+use Rattle.components.proofs.Words.{within_element}
 use Rattle.words.specs.Rows.{Stands}
 use Rattle.words.proofs.Reducing.{step}
 
@@ -82,9 +83,6 @@ word_stands word j fits one four =
 
 -- ---- a row
 
-pub last_stands : (word j : ℕ) {s : ℕ} → Stands (of_word j word) (16 + 3 * j) s → Stands (of_words j (word ∷ [])) (16 + 3 * j) s
-last_stands word j {s} sum = subst (λ (x : ℕ). Stands x (16 + 3 * j) s) (sym (one_word j word)) sum
-
 -- a word below a row whose sum has k digits, in n
 pub row_stands : (word j k n : ℕ) (words : List ℕ) {s b : ℕ} → Stands (of_words j words) k s → Stands (of_word j word) (16 + 3 * j) b → k + 4 * j ≤ n → 16 + 3 * j ≤ n → n ≤ 64
     → Stands (of_words j (word ∷ words)) n (s * 2 ^ (4 * j) % 2 ^ 64 ⊕ b)
@@ -93,18 +91,13 @@ row_stands word j k n words {s} {b} above under grown wide most =
     subst (λ (e : ℕ). Stands (of_word j word ⊕ product GF16 (of_words j words) (power GF16 α e)) n (s * 2 ^ (4 * j) % 2 ^ 64 ⊕ b)) (mul_comm 4 j)
     (joined (4 * j) k (16 + 3 * j) n above under grown wide most)
 
--- words below others
-words_above : (xs ys : List ℕ) → xs ++ ys ≡ xs ⊞ lifted (length xs) ys
-unfolding ◌⊞◌ lifted
-words_above [] ys = refl
-words_above (x ∷ xs) ys = ap₂ (λ (w : ℕ) (ws : List ℕ). w ∷ ws) (sym (sum_zero x)) (words_above xs ys)
-
-pub four_below : (j : ℕ) (words : List ℕ) → 4 ≤ length words
-    → of_words j words ≡ of_words j (take 4 words) ⊕ product GF16 (of_words j (drop 4 words)) (power GF16 α (j * 16))
-four_below j words room =
-    ap (of_words j) (sym (take-append-drop 4 words) ∙ words_above (take 4 words) (drop 4 words))
-    ∙ words_sum j (take 4 words) (lifted (length (take 4 words)) (drop 4 words))
-    ∙ ap (λ (x : ℕ). of_words j (take 4 words) ⊕ x) (lifted_words j (length (take 4 words)) (drop 4 words) ∙ ap (λ (q : ℕ). product GF16 (of_words j (drop 4 words)) (power GF16 α (j * (4 * q)))) {y = 4} (omega (arith, room, length-take 4 words)))
+-- four words below others
+pub four_below : (j : ℕ) (words : List ℕ) → 4 ≤ length words → of_words j words ≡ of_words j (take 4 words) ⊕ product GF16 (of_words j (drop 4 words)) (power GF16 α (j * 16))
+four_below j [] room = absurd (omega (arith, room))
+four_below j (a ∷ []) room = absurd (omega (arith, room))
+four_below j (a ∷ b ∷ []) room = absurd (omega (arith, room))
+four_below j (a ∷ b ∷ c ∷ []) room = absurd (omega (arith, room))
+four_below j (a ∷ b ∷ c ∷ d ∷ words) room = rows_joined j a b c d words
 
 -- ---- words from the last one down
 

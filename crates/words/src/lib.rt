@@ -60,7 +60,7 @@ pub fn first_four(object: &[u8]) -> Four
 // ---- The object is divided from its last word down.
 
 // What a relation of α leaves of an object: words of four symbols, the lowest first.
-trait Remainder: Copy {
+trait Remainder {
     ghost relation: { Relation };
 
     ghost words: { Self → List ℕ };
@@ -167,6 +167,7 @@ fn words_of<const W: usize>(object: &[u8]) -> [u64; W]
 {
     let (whole, cut) = object.as_chunks::<8>();
     let mut words = [0; W];
+    // By index: where an `iter_mut` has ended, a proof knows how long the row is, and not its words.
     for (i, bytes) in whole.iter().enumerate() {
         words[i] = u64::from_le_bytes(*bytes);
     }
