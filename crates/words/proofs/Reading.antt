@@ -1,58 +1,155 @@
--- A word of an object, from two halves or byte by byte from the last one down.
+-- Words of an object: eight bytes are a word, low byte first, past the end there are zeros, and so are words read one after the other.
 -- Assumes nothing.
-use mathlib.Core.Path.{◌≡◌, refl, ap, ap₂, ◌∙◌}
-use mathlib.Core.List.{List}
-use Prim.Native.Nat.{ℕ, zero, suc, ◌+◌, ◌-◌, ◌*◌, ◌^◌, ◌≤◌, ◌<◌}
+use mathlib.Core.Path.{◌≡◌, refl, sym, ap, ap₂, ◌∙◌}
+use mathlib.Core.Logic.{dite}
+use mathlib.Core.List.{List, reverse, reverse-cons, [], ◌∷◌, ◌++◌}
+use Prim.Native.Nat.{ℕ, zero, suc, ◌+◌, ◌*◌, ◌/◌, ◌^◌, ◌%◌, ◌≤◌, ◌<◌}
+use native.Mathlib.Decide.{dec_lt}
 use native.Mathlib.Nat.{lt_of_lt_of_le, pow-le-pow_right}
 use native.Mathlib.Omega.{arith}
-use lib.ListN.{length, get_or, get_or-eq_default}
+use lib.ListN.{length, get_or, get_or-eq_default, get_or-replicate, replicate, length-replicate, length-take, take, drop, set}
+use lib.Seq.{get_or-take, get_or-drop, get_or-set_same, get_or-set_other, drop-drop}
+use Rattle.std.proofs.lemmas.List.{length_push, get_or_push, get_or_append_left}
+use Rattle.std.proofs.lemmas.List.Sums.{fold-append}
+use Rattle.std.specs.List.{fold}
+use Rattle.std.specs.Int.{w64, from_le_bytes}
+use Rattle.std.specs.Simd.{first_chunks}
 use Rattle.components.specs.Objects.{Octets, low_first}
 use Rattle.components.proofs.Octets.{low_first_lt}
 
-module _ (bytes : List ℕ) where
-  pub pair_joined : (at : ℕ) → get_or bytes at 0 + get_or bytes (at + 1) 0 * 256 ≡ low_first 2 bytes at
-  unfolding low_first
-  pair_joined at = ap (λ (k : ℕ). get_or bytes at 0 + get_or bytes k 0 * 256) (more at) ∙ omega arith
-    where
-      more : (at : ℕ) → at + 1 ≡ suc at
-      more at = omega arith
+-- ---- one word
 
-  pub half_joined : (at : ℕ) → low_first 2 bytes at + low_first 2 bytes (at + 2) * 65536 ≡ low_first 4 bytes at
-  unfolding low_first
-  half_joined at = ap (λ (k : ℕ). low_first 2 bytes at + low_first 2 bytes k * 65536) (more at) ∙ omega arith
-    where
-      more : (at : ℕ) → at + 2 ≡ suc (suc at)
-      more at = omega arith
+low_first_same : (size : ℕ) (xs ys : List ℕ) (a b : ℕ) → ((m n : ℕ) → a ≤ m → m < a + size → m + b ≡ n + a → get_or xs m 0 ≡ get_or ys n 0) → low_first size xs a ≡ low_first size ys b
+unfolding low_first
+low_first_same zero xs ys a b same = refl
+low_first_same (suc size) xs ys a b same =
+    ap₂ (λ (x y : ℕ). x + 256 * y) (same a b (omega arith) (omega arith) (omega arith))
+    (low_first_same size xs ys (suc a) (suc b) (λ m n above below e. same m n (omega (arith, above)) (omega (arith, below)) (omega (arith, e))))
 
-  pub word_joined : (at : ℕ) → low_first 4 bytes at + low_first 4 bytes (at + 4) * 4294967296 ≡ low_first 8 bytes at
-  unfolding low_first
-  word_joined at = ap (λ (k : ℕ). low_first 4 bytes at + low_first 4 bytes k * 4294967296) (more at) ∙ omega arith
-    where
-      more : (at : ℕ) → at + 4 ≡ suc (suc (suc (suc at)))
-      more at = omega arith
+none_read : (size : ℕ) (bytes : List ℕ) (at : ℕ) → length bytes ≤ at → low_first size bytes at ≡ 0
+unfolding low_first
+none_read zero bytes at past = refl
+none_read (suc size) bytes at past = ap₂ (λ (x y : ℕ). x + 256 * y) (get_or-eq_default bytes 0 past) (none_read size bytes (suc at) (omega (arith, past)))
 
-  -- ---- from the last byte down: i bytes are left to take in, and n are taken
+low_drop : (at : ℕ) (bytes : List ℕ) → low_first 8 (drop at bytes) 0 ≡ low_first 8 bytes at
+low_drop at bytes = low_first_same 8 (drop at bytes) bytes 0 at (λ m n above below e. get_or-drop at bytes m 0 ∙ ap (λ (k : ℕ). get_or bytes k 0) (omega (arith, e)))
 
-  pub none_read : (n at : ℕ) → length bytes ≤ at → low_first n bytes at ≡ 0
-  unfolding low_first
-  none_read zero at past = refl
-  none_read (suc n) at past = ap₂ (λ (x y : ℕ). x + 256 * y) (get_or-eq_default bytes 0 past) (none_read n (suc at) (omega (arith, past)))
+low_take : (n at : ℕ) (bytes : List ℕ) → at + 8 ≤ n → low_first 8 (take n bytes) at ≡ low_first 8 bytes at
+low_take n at bytes inside =
+    low_first_same 8 (take n bytes) bytes at at (λ m k above below e. get_or-take n bytes m 0 (omega (arith, inside, below)) ∙ ap (λ (i : ℕ). get_or bytes i 0) (omega (arith, e)))
 
-  turned : (n i : ℕ) → get_or bytes i 0 + low_first n bytes (suc i) * 256 ≡ low_first (suc n) bytes i
-  unfolding low_first
-  turned n i = omega arith
+low : (bytes : List ℕ) → from_le_bytes w64 bytes ≡ low_first 8 bytes 0
+unfolding low_first
+low bytes = omega arith
 
-  pub one_more : (at i : ℕ) {x : ℕ} → at < i → i ≤ at + 8 → x ≡ low_first (at + 8 - i) bytes i → get_or bytes (i - 1) 0 + x * 256 ≡ low_first (at + 8 - (i - 1)) bytes (i - 1)
-  one_more at i {x} some short e =
-      ap (λ (y : ℕ). get_or bytes (i - 1) 0 + y * 256) (e ∙ ap (low_first (at + 8 - i) bytes) this)
-      ∙ turned (at + 8 - i) (i - 1)
-      ∙ ap (λ (n : ℕ). low_first n bytes (i - 1)) count
-    where
-      this : i ≡ suc (i - 1)
-      this = omega (arith, some)
+-- ---- a word that is cut off, from the last byte down
 
-      count : suc (at + 8 - i) ≡ at + 8 - (i - 1)
-      count = omega (arith, some, short)
+abbrev pub byte_above : ℕ → ℕ → ℕ
+byte_above x byte = x * 256 % 2 ^ 64 + byte
 
-  pub few_bytes : (n at : ℕ) → Octets bytes → n ≤ 7 → low_first n bytes at < 256 ^ 7
-  few_bytes n at octets few = lt_of_lt_of_le (low_first_lt n bytes at octets) (pow-le-pow_right (omega arith) few)
+pub bytes_folded : (size : ℕ) (bytes : List ℕ) → length bytes ≤ size → size ≤ 8 → Octets bytes → fold byte_above 0 (reverse bytes) ≡ low_first size bytes 0
+unfolding low_first
+bytes_folded size [] short few octets = sym (none_read size [] 0 (omega arith))
+bytes_folded zero (byte ∷ bytes) short few octets = absurd (omega (arith, short))
+bytes_folded (suc size) (byte ∷ bytes) short few octets =
+    ap (fold byte_above 0) (reverse-cons byte bytes)
+    ∙ fold-append byte_above 0 (reverse bytes) (byte ∷ [])
+    ∙ ap (λ (x : ℕ). byte_above x byte) (bytes_folded size bytes (omega (arith, short)) (omega (arith, few)) (λ i. octets (suc i)) ∙ low_first_same size bytes (byte ∷ bytes) 0 1 (λ m n above below e. ap (λ (k : ℕ). get_or (byte ∷ bytes) k 0) {x = suc m} (omega (arith, e))))
+    ∙ joined
+  where
+    above : ℕ
+    above = low_first size (byte ∷ bytes) 1
+
+    seven : size ≤ 7
+    seven = omega (arith, few)
+
+    room : above < 256 ^ 7
+    room = lt_of_lt_of_le (low_first_lt size (byte ∷ bytes) 1 octets) (pow-le-pow_right (omega arith) seven)
+
+    joined : byte_above above byte ≡ low_first (suc size) (byte ∷ bytes) 0
+    joined = omega (arith, room)
+
+-- ---- whole words
+
+-- chunks of eight bytes that are an object's from its start on
+pub record Chunks (object : List ℕ) (chunks : List (List ℕ)) : Type 0 where
+  pub inside : length chunks * 8 ≤ length object
+  pub read : (k : ℕ) → k < length chunks → from_le_bytes w64 (get_or chunks k []) ≡ low_first 8 object (k * 8)
+
+chunk_at : (n i : ℕ) (bytes : List ℕ) → i < n → get_or (first_chunks 8 n bytes) i [] ≡ take 8 (drop (i * 8) bytes)
+chunk_at zero i bytes h = absurd (omega (arith, h))
+chunk_at (suc n) zero bytes h = refl
+chunk_at (suc n) (suc i) bytes h = chunk_at n i (drop 8 bytes) (omega (arith, h)) ∙ ap (take 8) (drop-drop (i * 8) 8 bytes ∙ ap (λ (k : ℕ). drop k bytes) (omega arith))
+
+pub chunks_all : (object : List ℕ) {chunks : List (List ℕ)} → chunks ≡ first_chunks 8 (length object / 8) object → length chunks ≡ length object / 8 → Chunks object chunks
+chunks_all object {chunks} e count =
+    record {
+      inside = omega (arith, count);
+      read = λ k h.
+          ap (λ (xs : List (List ℕ)). from_le_bytes w64 (get_or xs k [])) e
+          ∙ ap (from_le_bytes w64) (chunk_at (length object / 8) k object (omega (arith, count, h)))
+          ∙ low (take 8 (drop (k * 8) object))
+          ∙ low_take 8 0 (drop (k * 8) object) (omega arith)
+          ∙ low_drop (k * 8) object;
+    }
+
+pub chunks_front : (n : ℕ) (object : List ℕ) {front : List ℕ} {chunks : List (List ℕ)} → front ≡ take n object → n ≤ length object → Chunks front chunks → Chunks object chunks
+chunks_front n object {front} {chunks} e within t =
+    record {
+      inside = omega (arith, t.inside, short, within);
+      read = λ k h. t.read k h ∙ ap (λ (bytes : List ℕ). low_first 8 bytes (k * 8)) e ∙ low_take n (k * 8) object (omega (arith, h, t.inside, short));
+    }
+  where
+    short : length front ≤ n
+    short = omega (arith, ap length e, length-take n object)
+
+module _ (object : List ℕ) {chunks : List (List ℕ)} (rest : List (List ℕ)) (last : List ℕ) (e : chunks ≡ rest ++ (last ∷ [])) (t : Chunks object chunks) where
+  pub one_less : length chunks ≡ length rest + 1
+  one_less = ap length e ∙ length_push rest last
+
+  pub chunks_less : Chunks object rest
+  chunks_less =
+      record {
+        inside = omega (arith, t.inside, one_less);
+        read = λ k h.
+            ap (from_le_bytes w64) (sym (ap (λ (xs : List (List ℕ)). get_or xs k []) e ∙ get_or_append_left rest (last ∷ []) [] k h)) ∙ t.read k (omega (arith, h, one_less));
+      }
+
+  pub chunk_last : from_le_bytes w64 last ≡ low_first 8 object (length rest * 8)
+  chunk_last =
+      ap (from_le_bytes w64) (sym (ap (λ (xs : List (List ℕ)). get_or xs (length rest) []) e ∙ get_or_push rest last [] (length rest) refl)) ∙ t.read (length rest) (omega (arith, one_less))
+
+pub cut_read : (object : List ℕ) {cut : List ℕ} {n word : ℕ} → n ≡ length object / 8 → cut ≡ drop (length object / 8 * 8) object → word ≡ low_first 8 cut 0 → word ≡ low_first 8 object (n * 8)
+cut_read object count e here =
+    here ∙ ap (λ (bytes : List ℕ). low_first 8 bytes 0) e ∙ low_drop (length object / 8 * 8) object ∙ ap (λ (k : ℕ). low_first 8 object (k * 8)) (sym count)
+
+-- ---- words that are read one after the other
+
+zero_at : (n i : ℕ) → get_or {A = ℕ} (replicate n 0) i 0 ≡ 0
+zero_at n i = dite (dec_lt i n) (λ (inside : i < n). get_or-replicate n i 0 0 inside) (λ past. get_or-eq_default (replicate n 0) 0 (omega (arith, length-replicate {A = ℕ} n 0)))
+
+-- the first i words are an object's, and those above them are zeros
+pub record Taken (object : List ℕ) (i : ℕ) (words : List ℕ) : Type 0 where
+  pub read : (k : ℕ) → k < i → get_or words k 0 ≡ low_first 8 object (k * 8)
+  pub zeros : (k : ℕ) → i ≤ k → get_or words k 0 ≡ 0
+
+pub taken_none : (object : List ℕ) (n : ℕ) → Taken object 0 (replicate n 0)
+taken_none object n = record { read = λ k h. absurd (omega (arith, h)); zeros = λ k h. zero_at n k }
+
+pub taken_more : (object words : List ℕ) (i x : ℕ) → Taken object i words → i < length words → x ≡ low_first 8 object (i * 8) → Taken object (i + 1) (set words i x)
+taken_more object words i x t room e =
+    record {
+      read = λ k h.
+          dite (dec_lt k i)
+          (λ (before : k < i). get_or-set_other words i k x 0 (λ same. omega (arith, same, before)) ∙ t.read k before)
+          (λ late.
+          let here : k ≡ i = omega arith in
+          ap (λ (l : ℕ). get_or (set words i x) l 0) here ∙ get_or-set_same words i x 0 room ∙ e ∙ ap (λ (l : ℕ). low_first 8 object (l * 8)) (sym here));
+      zeros = λ k h. get_or-set_other words i k x 0 (λ same. omega (arith, same, h)) ∙ t.zeros k (omega (arith, h));
+    }
+
+pub taken_all : (object words : List ℕ) (i : ℕ) → Taken object i words → length object ≤ i * 8 → (k : ℕ) → get_or words k 0 ≡ low_first 8 object (k * 8)
+taken_all object words i t short k =
+    dite (dec_lt k i)
+    (λ (before : k < i). t.read k before)
+    (λ late. t.zeros k (omega arith) ∙ sym (none_read 8 object (k * 8) (omega (arith, short))))

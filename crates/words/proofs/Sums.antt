@@ -1,11 +1,14 @@
--- Sums that are not reduced yet: one that is shifted over another, the sum of a word's symbols, and that of a row.
+-- Sums that are not reduced yet: one that is shifted over another, the sum of a word's symbols, that of a row, and that of words from the last one down.
 -- Assumes nothing.
 use mathlib.Core.Path.{◌≡◌, refl, sym, ap, ap₂, ◌∙◌, subst}
-use mathlib.Core.List.{List, [], ◌∷◌}
-use Prim.Native.Nat.{ℕ, ◌+◌, ◌*◌, ◌/◌, ◌%◌, ◌^◌, ◌≤◌, ◌<◌}
-use native.Mathlib.Nat.{mod-eq_of_lt, lt_of_lt_of_le, mul_comm, mul-one, div-one}
+use mathlib.Core.List.{List, [], ◌∷◌, ◌++◌}
+use Prim.Native.Nat.{ℕ, suc, ◌+◌, ◌*◌, ◌/◌, ◌%◌, ◌^◌, ◌≤◌, ◌<◌}
+use native.Mathlib.Nat.{mod-eq_of_lt, lt_of_lt_of_le, mul_comm, mul-one, div-one, mul-add, mul-le-mul_left}
 use native.Mathlib.Omega.{arith}
-use lib.Pow.{pow_mono, shl_lt, shr_mod}
+use lib.ListN.{length, length-append, take, drop}
+use Rattle.std.proofs.Common.{append-nil}
+use Rattle.std.proofs.Math.Seq.{append_snoc}
+use lib.Pow.{pow_pos, pow_mono, shl_lt, shr_mod}
 use Rattle.field.specs.Field.{GF16, ◌⊕◌, reduced, product, power, α}
 use Rattle.field.proofs.Sums.{sum_lt}
 use Rattle.field.proofs.Reducing.{reduced_below}
@@ -13,7 +16,8 @@ use Rattle.field.proofs.Instances.{GF16_formed}
 use Rattle.components.specs.Components.{component}
 use Rattle.components.specs.Words.{within, of_word, of_words}
 use Rattle.components.proofs.Components.{component_one, component_parts}
-use Rattle.components.proofs.Words.{within_element, one_word}
+use Rattle.components.proofs.Division.{rows_joined}
+use Rattle.components.proofs.Words.{within_element}
 use Rattle.words.specs.Rows.{Stands}
 use Rattle.words.proofs.Reducing.{step}
 
@@ -79,9 +83,6 @@ word_stands word j fits one four =
 
 -- ---- a row
 
-pub last_stands : (word j : ℕ) {s : ℕ} → Stands (of_word j word) (16 + 3 * j) s → Stands (of_words j (word ∷ [])) (16 + 3 * j) s
-last_stands word j {s} sum = subst (λ (x : ℕ). Stands x (16 + 3 * j) s) (sym (one_word j word)) sum
-
 -- a word below a row whose sum has k digits, in n
 pub row_stands : (word j k n : ℕ) (words : List ℕ) {s b : ℕ} → Stands (of_words j words) k s → Stands (of_word j word) (16 + 3 * j) b → k + 4 * j ≤ n → 16 + 3 * j ≤ n → n ≤ 64
     → Stands (of_words j (word ∷ words)) n (s * 2 ^ (4 * j) % 2 ^ 64 ⊕ b)
@@ -89,3 +90,49 @@ unfolding of_words
 row_stands word j k n words {s} {b} above under grown wide most =
     subst (λ (e : ℕ). Stands (of_word j word ⊕ product GF16 (of_words j words) (power GF16 α e)) n (s * 2 ^ (4 * j) % 2 ^ 64 ⊕ b)) (mul_comm 4 j)
     (joined (4 * j) k (16 + 3 * j) n above under grown wide most)
+
+-- four words below others
+pub four_below : (j : ℕ) (words : List ℕ) → 4 ≤ length words → of_words j words ≡ of_words j (take 4 words) ⊕ product GF16 (of_words j (drop 4 words)) (power GF16 α (j * 16))
+four_below j [] room = absurd (omega (arith, room))
+four_below j (a ∷ []) room = absurd (omega (arith, room))
+four_below j (a ∷ b ∷ []) room = absurd (omega (arith, room))
+four_below j (a ∷ b ∷ c ∷ []) room = absurd (omega (arith, room))
+four_below j (a ∷ b ∷ c ∷ d ∷ words) room = rows_joined j a b c d words
+
+-- ---- words from the last one down
+
+-- the sum of the words above those that are left
+pub record Summed (j : ℕ) (words left : List ℕ) (s : ℕ) : Type 0 where
+  pub above : List ℕ
+  pub whole : words ≡ left ++ above
+  pub stands : Stands (of_words j above) (16 + j * (4 * length above)) s
+
+pub summed_none : (j : ℕ) (words : List ℕ) {left : List ℕ} → left ≡ words → Summed j words left 0
+unfolding of_words
+summed_none j words {left} e =
+    record { above = []; whole = sym (append-nil left ∙ e); stands = record { comes = reduced_below GF16 48 (pow_pos 16); below = pow_pos (16 + j * 0) } }
+
+pub summed_more : (j : ℕ) (words left : List ℕ) (word : ℕ) {before : List ℕ} {s b : ℕ} → before ≡ left ++ (word ∷ []) → j * (4 * length words) ≤ 48 → Stands (of_word j word) (16 + 3 * j) b
+    → Summed j words before s → Summed j words left (s * 2 ^ (4 * j) % 2 ^ 64 ⊕ b)
+summed_more j words left word e room one sum =
+    record {
+      above = word ∷ sum.above;
+      whole = whole;
+      stands = row_stands word j (16 + j * (4 * length sum.above)) (16 + j * (4 * suc (length sum.above))) sum.above sum.stands one (omega (arith, more)) (omega (arith, more)) (omega (arith, most, room));
+    }
+  where
+    whole : words ≡ left ++ (word ∷ sum.above)
+    whole = sum.whole ∙ ap (λ (ws : List ℕ). ws ++ sum.above) e ∙ append_snoc left word sum.above
+
+    more : j * (4 * suc (length sum.above)) ≡ j * (4 * length sum.above) + 4 * j
+    more = ap (λ (n : ℕ). j * n) (four (length sum.above)) ∙ mul-add j (4 * length sum.above) 4 ∙ ap (λ (n : ℕ). j * (4 * length sum.above) + n) (mul_comm j 4)
+      where
+        four : (n : ℕ) → 4 * suc n ≡ 4 * n + 4
+        four n = omega arith
+
+    most : j * (4 * suc (length sum.above)) ≤ j * (4 * length words)
+    most = mul-le-mul_left j (omega (arith, ap length whole, length-append left (word ∷ sum.above)))
+
+pub summed_all : (j : ℕ) (words left : List ℕ) {s : ℕ} → length left ≡ 0 → Summed j words left s → Stands (of_words j words) (16 + j * (4 * length words)) s
+summed_all j words [] none sum = subst (λ (ws : List ℕ). Stands (of_words j ws) (16 + j * (4 * length ws)) _) (sym sum.whole) sum.stands
+summed_all j words (word ∷ left) none sum = absurd (omega (arith, none))

@@ -7,4 +7,4 @@ use Rattle.words.proofs.first.Goals as goal
 
 pub returns : goal.returns
 returns c =
-    stands_reduced c.four_words.ensures c.reduced.ensures ∙ c.left.ensures 1 own_1
+    stands_reduced c.few_words.ensures c.reduced.ensures ∙ c.left-r.ensures 1 own_1

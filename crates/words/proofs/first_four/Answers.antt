@@ -13,8 +13,8 @@ returns c =
     let left : _ = c.left-r.ensures in
     let object : _ = c.args.object.now in
     ap₂ (λ (x y : ℕ). record { s1 = x; s2 = y; s3 = c.third.result; s4 = c.fourth.result })
-    (stands_reduced c.four_words.ensures c.reduced.ensures ∙ left 1 own_1)
-    (stands_reduced c.four_words-2.ensures c.reduced-2.ensures ∙ left 2 own_2)
+    (stands_reduced c.few_words.ensures c.reduced.ensures ∙ left 1 own_1)
+    (stands_reduced c.few_words-2.ensures c.reduced-2.ensures ∙ left 2 own_2)
     ∙ ap₂ (λ (x y : ℕ). record { s1 = signature GF16 2 object 1; s2 = signature GF16 2 object 2; s3 = x; s4 = y })
-    (c.third.ensures ∙ c.left_by_third.ensures 3 third_3)
+    (c.third.ensures ∙ c.left-long.ensures 3 third_3)
     (c.fourth.ensures ∙ left 4 own_4)

@@ -10,5 +10,5 @@ pub returns : goal.returns
 returns c =
     let left : _ = c.left-r.ensures in
     ap₂ (λ (x y : ℕ). record { s1 = x; s2 = y })
-    (stands_reduced c.four_words.ensures c.reduced.ensures ∙ left 1 own_1)
-    (stands_reduced c.four_words-2.ensures c.reduced-2.ensures ∙ left 2 own_2)
+    (stands_reduced c.few_words.ensures c.reduced.ensures ∙ left 1 own_1)
+    (stands_reduced c.few_words-2.ensures c.reduced-2.ensures ∙ left 2 own_2)
