@@ -52,11 +52,6 @@ digit_scaled zero x h = zero-mul x
 digit_scaled (suc zero) x h = one-mul x
 digit_scaled (suc (suc d)) x h = absurd (omega arith)
 
-pub digit_le : (d x : ℕ) → d < 2 → d * x ≤ x
-digit_le zero x h = omega (arith, zero-mul x)
-digit_le (suc zero) x h = omega (arith, one-mul x)
-digit_le (suc (suc d)) x h = absurd (omega arith)
-
 -- ---- a weight doubled is the next one
 
 pub doubled_turn : (k : ℕ) {x : ℕ} → x < 2 ^ 16 → doubled GF16 (product GF16 x (power GF16 α k)) ≡ product GF16 x (power GF16 α (suc k))
