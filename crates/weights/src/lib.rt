@@ -38,7 +38,7 @@ fn weighed(symbol: u16, weight: u16) -> (u16, u16)
     let mut r: u16 = 0;
     let mut x = weight;
     let mut y = symbol;
-    for _ in 0..16usize {
+    for _ in 0..u16::BITS {
         r = field::sum(y % 2 * x, r);
         x = field::double(x);
         y /= 2;
