@@ -1,9 +1,8 @@
 -- `caption::Block::note` meets its contract. The invariant: the hits before place i + k are noted.
 -- Assumes nothing.
 use mathlib.Core.Path.{◌≡◌, refl, sym, ◌∙◌}
-use Prim.Native.Nat.{suc, ◌+◌, ◌<◌}
+use Prim.Native.Nat.{suc, ◌+◌}
 use native.Mathlib.Omega.{arith}
-use lib.ListN.{length}
 use Rattle.units.proofs.Noting.{noted_passed, noted_listed}
 use Rattle.caption.proofs.Turns.{again}
 use Rattle.caption.proofs.Block.note.Goals as goal
