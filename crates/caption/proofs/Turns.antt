@@ -1,4 +1,4 @@
--- What a turn of the loops over a block does to a search: places are passed by, one or many.
+-- What a turn of the loops over blocks does: places are passed by, one or many, and a block is read and weighed.
 -- Assumes nothing.
 use mathlib.Core.Path.{◌≡◌, sym, ap₂, ◌∙◌, subst}
 use mathlib.Core.Bool.{Bool, false}

@@ -136,7 +136,7 @@ fn put_plain(caption: &[u8], output: &mut [u8])
     );
     let mut block = [0u16; 16];
     let mut i = all.count;
-    // No `step_by(16)`: with it decoding took 7 % longer.
+    // Not `for done in (0..all.count).step_by(16)`: with it decoding takes 7 % longer.
     while i > 0 {
         let n = 16.min(i);
         read_changes(caption, i, &mut block[..n]);
@@ -234,7 +234,7 @@ fn find(caption: &[u8], pattern: &[u8], list: &mut [usize]) -> Listed
     weights::put_weights(signature::own(1, pattern).s1, &mut weighed);
     let mut found: usize = 0;
     let mut i: usize = 0;
-    // No `step_by(16)`: with it a search took 7 % longer, as its end is looked for twice a block.
+    // Not `for i in (0..count).step_by(16)`: with it a search takes 7 % longer, as a step looks for the end twice.
     while i < count {
         let n = 16.min(count - i);
         let block = Block {
@@ -252,7 +252,7 @@ fn find(caption: &[u8], pattern: &[u8], list: &mut [usize]) -> Listed
     Listed::Numbers(found)
 }
 
-// Places of a code, from place i on. What the l symbols at each add up to, weighted as they are in the code, is weighed where a pattern hits.
+// Places of a code from i on, as many as are weighed: where the pattern hits, the l symbols there add up to what is weighed for the place.
 #[derive(Clone, Copy)]
 struct Block<'a> {
     caption: &'a [u8],
