@@ -3,15 +3,14 @@
 use mathlib.Core.Path.{◌≡◌, sym, ap, ap₂, ◌∙◌}
 use Prim.Native.Nat.{ℕ, ◌/◌, ◌%◌, ◌^◌, ◌<◌}
 use native.Mathlib.Omega.{arith}
-use native.Mathlib.Numerals.{add-one}
 use native.Mathlib.Nat.{div-one}
 use lib.Pow.{shr_le, shr-shr}
 use Rattle.field.proofs.Instances.{GF16_formed}
-use Rattle.field.proofs.Powers.{power_zero, product_zero, product_turn}
-use Rattle.field.proofs.Products.{product_comm, product_one}
+use Rattle.field.proofs.Powers.{product_zero, product_turn}
+use Rattle.field.proofs.Products.{product_comm}
 use Rattle.field.proofs.Sums.{zero_sum, sum_zero}
-use Rattle.field.specs.Field.{GF16, ◌⊕◌, scaled, product, power, doubled, α}
-use Rattle.weights.proofs.Turns.{digit_scaled, doubled_turn}
+use Rattle.field.specs.Field.{GF16, ◌⊕◌, scaled, product, doubled}
+use Rattle.weights.proofs.Turns.{digit_scaled, first_weight, next_weight}
 use Rattle.weights.proofs.weighed.Goals as goal
 
 pub loop-init : goal.loop-init
@@ -20,7 +19,7 @@ loop-init c =
       omega arith,
       sym (div-one args.symbol),
       zero_sum (product GF16 args.weight args.symbol),
-      sym (ap (product GF16 args.weight) (power_zero GF16 GF16_formed α) ∙ product_one GF16 GF16_formed (omega arith)),
+      sym (first_weight args.weight (omega arith)),
     )
 
 pub loop-preserved : goal.loop-preserved
@@ -33,10 +32,7 @@ loop-preserved c =
       omega arith,
       ap (λ (n : ℕ). n / 2) at.invariant.1 ∙ shr-shr args.symbol at.counter 1,
       ap₂ (λ (n x : ℕ). n ⊕ product GF16 x (at.y / 2)) part twice ∙ product_turn GF16 GF16_formed at.r at.invariant.0 small ∙ at.invariant.2,
-      twice
-          ∙ ap (doubled GF16) at.invariant.3
-          ∙ doubled_turn at.counter (omega arith)
-          ∙ ap (λ (k : ℕ). product GF16 args.weight (power GF16 α k)) (sym (add-one at.counter)),
+      twice ∙ ap (doubled GF16) at.invariant.3 ∙ sym (next_weight args.weight at.counter (omega arith)),
     )
 
 pub returns-clause-product : goal.returns-clause-product
