@@ -8,9 +8,12 @@ use Rattle.weights.proofs.Turns.{first_weight, next_weight}
 use Rattle.weights.proofs.put_weights.Goals as goal
 
 pub loop-weight-init : goal.loop-weight-init
-loop-weight-init c = (search rules, sym (first_weight c.args.first (omega arith)))
+loop-weight-init c = record { set = search rules; next_is = sym (first_weight c.args.first (omega arith)) }
 
 pub loop-weight-preserved : goal.loop-weight-preserved
 loop-weight-preserved c =
     let at : _ = c.loop-weight in
-    (search rules, c.double-next.ensures ∙ ap (doubled GF16) at.invariant.1 ∙ sym (next_weight c.args.first at.weight-index (omega arith)))
+    record {
+      set = search rules;
+      next_is = c.double-next.ensures ∙ ap (doubled GF16) at.invariant.next_is ∙ sym (next_weight c.args.first at.weight-index (omega arith));
+    }

@@ -7,4 +7,7 @@ use Rattle.weights.proofs.put_weights.Given as goal
 
 abbrev pub invariant-loop-weight : goal.invariant-loop-weight
 invariant-loop-weight l =
-    Set (λ k. product GF16 l.first (power GF16 α k)) l.initial.weights l.weight-index l.weights × (l.next ≡ product GF16 l.first (power GF16 α l.weight-index))
+    record {
+      set : Set (λ k. product GF16 l.first (power GF16 α k)) l.initial.weights l.weight-index l.weights;
+      next_is : l.next ≡ product GF16 l.first (power GF16 α l.weight-index);
+    }

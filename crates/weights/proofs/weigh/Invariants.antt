@@ -7,5 +7,7 @@ use Rattle.weights.proofs.weigh.Given as goal
 
 abbrev pub invariant-loop-l : goal.invariant-loop-l
 invariant-loop-l l =
-    Set (λ k. product GF16 (get_or l.initial.block k 0) (get_or l.initial.weights k 0)) l.initial.block l.l l.block
-    × Set (λ k. product GF16 (get_or l.initial.weights k 0) (power GF16 α 16)) l.initial.weights l.l l.weights
+    record {
+      weighed : Set (λ k. product GF16 (get_or l.initial.block k 0) (get_or l.initial.weights k 0)) l.initial.block l.l l.block;
+      moved : Set (λ k. product GF16 (get_or l.initial.weights k 0) (power GF16 α 16)) l.initial.weights l.l l.weights;
+    }

@@ -7,5 +7,9 @@ use Rattle.weights.proofs.weighed.Given as goal
 
 abbrev pub invariant-loop : goal.invariant-loop
 invariant-loop l =
-    (l.x < 65536) × (l.y ≡ l.symbol / 2 ^ l.counter) × (l.r ⊕ product GF16 l.x l.y ≡ product GF16 l.weight l.symbol)
-    × (l.x ≡ product GF16 l.weight (power GF16 α l.counter))
+    record {
+      x_small : l.x < 65536;
+      y_is : l.y ≡ l.symbol / 2 ^ l.counter;
+      sum_is : l.r ⊕ product GF16 l.x l.y ≡ product GF16 l.weight l.symbol;
+      x_is : l.x ≡ product GF16 l.weight (power GF16 α l.counter);
+    }
