@@ -252,7 +252,7 @@ fn find(caption: &[u8], pattern: &[u8], list: &mut [usize]) -> Listed
     Listed::Numbers(found)
 }
 
-// Places of a code from i on, as many as are weighed: where the pattern hits, the l symbols there add up to what is weighed for the place.
+// A block of a code's places, from i on and as many as are weighed: where the pattern hits, the l symbols there add up to what is weighed for the place.
 #[derive(Clone, Copy)]
 struct Block<'a> {
     caption: &'a [u8],
@@ -298,6 +298,7 @@ impl Block<'_> {
         found
     }
 
+    // Whether the pattern hits at place i + k.
     fn hits(&self, k: usize) -> bool
         requires { k < length self.now.weighed.now }
         ensures { result ≡ hit_at self.now k }

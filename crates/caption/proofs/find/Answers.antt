@@ -48,21 +48,21 @@ returns-then-count-eq0 c =
     all_noted args.caption.now args.pattern.now args.list.now _ _ _ (sym none) none_noted
 
 pub loop-i-init : goal.loop-i-init
-loop-i-init c = (
-  omega arith,
-  λ some k h.
+loop-i-init c = record {
+  inside = omega arith;
+  weighed_is = λ some k h.
       c.put_weights.ensures.done k h
       ∙ as_weight GF16 _ k
-      ∙ ap₂ (λ (x j : ℕ). product GF16 x (weight GF16 0 j)) (ap (λ (s : Signature). s.s1) c.own.ensures) (sym (zero-add k)),
-  none_noted,
-)
+      ∙ ap₂ (λ (x j : ℕ). product GF16 x (weight GF16 0 j)) (ap (λ (s : Signature). s.s1) c.own.ensures) (sym (zero-add k));
+  noted = none_noted;
+}
 
 pub note-found-requires : goal.note-found-requires
 note-found-requires c =
     let at : _ = c.loop-i in
     let n : ℕ = c.min-n.result in
     let few : n ≡ min 16 (c.places-count.result - at.i) = lesser 16 (c.places-count.result - at.i) c.min-n.ensures in
-    (omega (arith, c.places-count.ensures, length-take-le n at.weighed (omega (arith, c.min-n.array_long))), noted_below at.invariant.2)
+    (omega (arith, c.places-count.ensures, length-take-le n at.weighed (omega (arith, c.min-n.array_long))), noted_below at.invariant.noted)
 
 pub loop-i-preserved : goal.loop-i-preserved
 unfolding hitting hit
@@ -79,26 +79,27 @@ loop-i-preserved c =
     let each : (k : ℕ) → k < length (take n at.weighed) → hitting caption pattern (at.i + k) ≡ eqb (previous code (at.i + k + l) ⊕ previous code (at.i + k)) (get_or (take n at.weighed) k 0) =
     λ k h.
     sym (ap₂ (λ (m x : ℕ). eqb (previous code (at.i + k + m) ⊕ previous code (at.i + k)) x) c.symbols_in-l.ensures
-    (get_or-take n at.weighed k 0 (omega (arith, sized)) ∙ at.invariant.1 inside k (omega arith))) in (
-      omega (arith, c.places-count.ensures),
-      λ more k h.
+    (get_or-take n at.weighed k 0 (omega (arith, sized)) ∙ at.invariant.weighed_is inside k (omega arith))) in
+    record {
+      inside = omega (arith, c.places-count.ensures);
+      weighed_is = λ more k h.
           let on : at.i + k + 16 ≡ at.i + n + k = omega (arith, c.places-count.ensures) in
           c.move_on.ensures.done k (omega (arith, h, c.min-n.array_long))
-          ∙ ap (λ (x : ℕ). product GF16 x (weight GF16 0 16)) (at.invariant.1 inside k h)
+          ∙ ap (λ (x : ℕ). product GF16 x (weight GF16 0 16)) (at.invariant.weighed_is inside k h)
           ∙ product_assoc GF16 GF16_formed (signed pattern (λ j. (c.type_inv.pattern j).fits)) (weight_element GF16 0 GF16_passes (at.i + k)) (weight_element GF16 0 GF16_passes 16)
-          ∙ ap (product GF16 (signature GF16 2 pattern 1)) (weight_on GF16 0 GF16_passes (at.i + k) 16 ∙ ap (weight GF16 0) on),
-      subst (λ (k : ℕ). Noted (hitting caption pattern) c.args.list.now (at.i + k) c.if-may_hit.list c.if-may_hit.found) sized
+          ∙ ap (product GF16 (signature GF16 2 pattern 1)) (weight_on GF16 0 GF16_passes (at.i + k) 16 ∙ ap (weight GF16 0) on);
+      noted = subst (λ (k : ℕ). Noted (hitting caption pattern) c.args.list.now (at.i + k) c.if-may_hit.list c.if-may_hit.found) sized
           (elim c.if-may_hit.branch [
             | then-may_hit w ↦
-                let next : _ = w.note-found.ensures (hitting caption pattern) c.args.list.now (sym at.auto.list) each at.invariant.2.list_is at.invariant.2.found_is in
+                let next : _ = w.note-found.ensures (hitting caption pattern) c.args.list.now (sym at.auto.list) each at.invariant.noted.list_is at.invariant.noted.found_is in
                 again w.list-is w.found-is (record { list_is = next.0; found_is = next.1 })
-            | else-may_hit w ↦ again w.list-is w.found-is (all_passed _ at.invariant.2 (λ k h. each k h ∙ c.may_hit.ensures w.if-may_hit.false k h))
-          ]),
-    )
+            | else-may_hit w ↦ again w.list-is w.found-is (all_passed _ at.invariant.noted (λ k h. each k h ∙ c.may_hit.ensures w.if-may_hit.false k h))
+          ]);
+    }
 
 pub returns : goal.returns
 returns c =
     let args : _ = c.args in
     let at : _ = c.loop-i in
-    let all : at.i ≡ places_for args.caption.now args.pattern.now = omega (arith, c.places-count.ensures, at.invariant.0) in
-    all_noted args.caption.now args.pattern.now args.list.now at.i at.list at.found all at.invariant.2
+    let all : at.i ≡ places_for args.caption.now args.pattern.now = omega (arith, c.places-count.ensures, at.invariant.inside) in
+    all_noted args.caption.now args.pattern.now args.list.now at.i at.list at.found all at.invariant.noted

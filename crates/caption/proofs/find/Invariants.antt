@@ -19,9 +19,11 @@ hitting caption pattern = hit GF16 0 (symbol 2 caption) (symbols 2 pattern) (sym
 
 abbrev pub invariant-loop-i : goal.invariant-loop-i
 invariant-loop-i l =
-    (l.i ≤ places_for l.caption l.pattern)
-    × (l.i < places_for l.caption l.pattern → (k : ℕ) → k < 16 → get_or l.weighed k 0 ≡ product GF16 (signature GF16 2 l.pattern 1) (weight GF16 0 (l.i + k)))
-    × Noted (hitting l.caption l.pattern) l.initial.list l.i l.list l.found
+    record {
+      inside : l.i ≤ places_for l.caption l.pattern;
+      weighed_is : l.i < places_for l.caption l.pattern → (k : ℕ) → k < 16 → get_or l.weighed k 0 ≡ product GF16 (signature GF16 2 l.pattern 1) (weight GF16 0 (l.i + k));
+      noted : Noted (hitting l.caption l.pattern) l.initial.list l.i l.list l.found;
+    }
 
 abbrev pub decreases-loop-i : goal.decreases-loop-i
 decreases-loop-i l =

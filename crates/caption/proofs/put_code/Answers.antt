@@ -24,12 +24,13 @@ use Rattle.caption.proofs.put_code.Goals.{After-put_sums-sum}
 
 pub loop-i-init : goal.loop-i-init
 loop-i-init c =
-    let args : _ = c.args in (
-      omega arith,
-      λ some l h. c.put_weights.ensures.done l h ∙ as_weight GF16 _ l ∙ one_product GF16 GF16_formed (weight_element GF16 0 GF16_passes l) ∙ ap (Codes.weight GF16 0) (sym (zero-add l)),
-      refl,
-      sym (row_none (code args.caption.now) args.output.now),
-    )
+    let args : _ = c.args in
+    record {
+      inside = omega arith;
+      weights_are = λ some l h. c.put_weights.ensures.done l h ∙ as_weight GF16 _ l ∙ one_product GF16 GF16_formed (weight_element GF16 0 GF16_passes l) ∙ ap (Codes.weight GF16 0) (sym (zero-add l));
+      sum_is = refl;
+      put = sym (row_none (code args.caption.now) args.output.now);
+    }
 
 -- the code after a block, and the weights 16 symbols on
 turn : (c : After-put_sums-sum)
@@ -50,15 +51,15 @@ turn c =
     λ l h.
     let below : l < n = omega (arith, sized) in
     ap (λ (x : ℕ). previous (code caption) (at.i + l) ⊕ x)
-    (weighed_at refilled at.weights wide c.weigh.ensures.product below (read.ensures l (omega (arith, first_long refilled))) (at.invariant.1 inside l (omega arith)))
+    (weighed_at refilled at.weights wide c.weigh.ensures.product below (read.ensures l (omega (arith, first_long refilled))) (at.invariant.weights_are inside l (omega arith)))
     ∙ code_turn GF16 0 (symbol 2 caption) (at.i + l) in
-    let next : _ = c.put_sums-sum.ensures (code caption) c.args.output.now (sym at.auto.output) at.invariant.2 each at.invariant.3 in (
+    let next : _ = c.put_sums-sum.ensures (code caption) c.args.output.now (sym at.auto.output) at.invariant.sum_is each at.invariant.put in (
       next.0 ∙ ap (λ (k : ℕ). previous (code caption) (at.i + k)) sized,
       next.1 ∙ ap (λ (k : ℕ). written c.args.output.now 0 (bytes (at.i + k) (code caption))) sized,
       λ l h.
           let on : at.i + l + 16 ≡ at.i + 16 + l = omega arith in
           c.weigh.ensures.weight.done l (in_both (still_long refilled) wide h)
-          ∙ ap (λ (x : ℕ). product GF16 x (Codes.weight GF16 0 16)) (at.invariant.1 inside l h)
+          ∙ ap (λ (x : ℕ). product GF16 x (Codes.weight GF16 0 16)) (at.invariant.weights_are inside l h)
           ∙ weight_on GF16 0 GF16_passes (at.i + l) 16
           ∙ ap (Codes.weight GF16 0) on,
     )
@@ -66,20 +67,21 @@ turn c =
 pub loop-i-preserved : goal.loop-i-preserved
 loop-i-preserved c =
     let next : _ = turn (goal.at.loop-i-preserved c).After-put_sums-sum in
-    let all : c.loop-i.i + c.min-n.result ≡ c.loop-i.i + 16 = omega (arith, lesser 16 (c.symbols_in-count.result.count - c.loop-i.i) c.min-n.ensures) in (
-      omega (arith, c.symbols_in-count.ensures),
-      λ _. next.2,
-      next.0 ∙ ap (previous (code c.args.caption.now)) all,
-      next.1 ∙ ap (λ (k : ℕ). written c.args.output.now 0 (bytes k (code c.args.caption.now))) all,
-    )
+    let all : c.loop-i.i + c.min-n.result ≡ c.loop-i.i + 16 = omega (arith, lesser 16 (c.symbols_in-count.result.count - c.loop-i.i) c.min-n.ensures) in
+    record {
+      inside = omega (arith, c.symbols_in-count.ensures);
+      weights_are = λ _. next.2;
+      sum_is = next.0 ∙ ap (previous (code c.args.caption.now)) all;
+      put = next.1 ∙ ap (λ (k : ℕ). written c.args.output.now 0 (bytes k (code c.args.caption.now))) all;
+    }
 
 pub returns : goal.returns
 unfolding code encoded
 returns c =
     let args : _ = c.args in
     let at : _ = c.loop-i in
-    let all : at.i ≡ symbols 2 args.caption.now = omega (arith, c.symbols_in-count.ensures, at.invariant.0) in
-    at.invariant.3 ∙ ap (λ (k : ℕ). written args.output.now 0 (bytes k (code args.caption.now))) all
+    let all : at.i ≡ symbols 2 args.caption.now = omega (arith, c.symbols_in-count.ensures, at.invariant.inside) in
+    at.invariant.put ∙ ap (λ (k : ℕ). written args.output.now 0 (bytes k (code args.caption.now))) all
 
 pub returns-2 : goal.returns-2
 unfolding code encoded

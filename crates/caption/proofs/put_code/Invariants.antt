@@ -18,5 +18,9 @@ code caption = coded GF16 0 (symbol 2 caption)
 
 abbrev pub invariant-loop-i : goal.invariant-loop-i
 invariant-loop-i l =
-    (l.i ≤ symbols 2 l.caption) × (l.i < symbols 2 l.caption → (k : ℕ) → k < 16 → get_or l.weights k 0 ≡ Codes.weight GF16 0 (l.i + k))
-    × (l.sum ≡ previous (code l.caption) l.i) × (l.output ≡ written l.initial.output 0 (bytes l.i (code l.caption)))
+    record {
+      inside : l.i ≤ symbols 2 l.caption;
+      weights_are : l.i < symbols 2 l.caption → (k : ℕ) → k < 16 → get_or l.weights k 0 ≡ Codes.weight GF16 0 (l.i + k);
+      sum_is : l.sum ≡ previous (code l.caption) l.i;
+      put : l.output ≡ written l.initial.output 0 (bytes l.i (code l.caption));
+    }

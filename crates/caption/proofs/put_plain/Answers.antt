@@ -34,17 +34,18 @@ loop-i-init c =
     times_power.ensures
     ∙ ap (λ (k : ℕ). product GF16 1 (power GF16 α k)) exponent-back.ensures
     ∙ one_product GF16 GF16_formed (α_power GF16 GF16_formed _)
-    ∙ ap (λ (k : ℕ). power GF16 α (65535 - k % 65535)) (sym (add-zero count)) in (
-      omega arith,
-      λ l h inside.
+    ∙ ap (λ (k : ℕ). power GF16 α (65535 - k % 65535)) (sym (add-zero count)) in
+    record {
+      inside = omega arith;
+      unweights_are = λ l h inside.
           let up : count ≡ suc (count - 1 - l + l) = omega (arith, inside) in
           c.put_weights.ensures.done l h
           ∙ as_weight GF16 _ l
           ∙ ap (λ (x : ℕ). product GF16 x (Codes.weight GF16 0 l))
           (c.double.ensures ∙ ap (doubled GF16) (top ∙ ap (Codes.unweight GF16 0) up) ∙ unweight_turn GF16 0 GF16_passes (count - 1 - l + l))
-          ∙ unweight_on GF16 0 GF16_passes (count - 1 - l) l,
-      ap (λ (k : ℕ). written args.output.now 0 (bytes k (plainly args.caption.now))) all,
-    )
+          ∙ unweight_on GF16 0 GF16_passes (count - 1 - l) l;
+      put = ap (λ (k : ℕ). written args.output.now 0 (bytes k (plainly args.caption.now))) all;
+    }
 
 pub loop-i-preserved : goal.loop-i-preserved
 unfolding plainly plain
@@ -62,15 +63,16 @@ loop-i-preserved c =
     let each : (l : ℕ) → l < length (take n weigh.new.block) → get_or (take n weigh.new.block) l 0 ≡ plainly caption (at.i - 1 - l) =
     λ l h.
     let below : l < n = omega (arith, sized) in
-    weighed_at refilled at.unweights wide weigh.ensures.product below (read.ensures l (omega (arith, first_long refilled))) (at.invariant.1 l (omega arith) (omega arith)) in (
-      omega arith,
-      λ l h inside.
+    weighed_at refilled at.unweights wide weigh.ensures.product below (read.ensures l (omega (arith, first_long refilled))) (at.invariant.unweights_are l (omega arith) (omega arith)) in
+    record {
+      inside = omega arith;
+      unweights_are = λ l h inside.
           let down : at.i - 1 - l ≡ at.i - n - 1 - l + 16 = omega arith in
           weigh.ensures.weight.done l (in_both (still_long refilled) wide h)
-          ∙ ap (λ (x : ℕ). product GF16 x (Codes.weight GF16 0 16)) (at.invariant.1 l h (omega arith) ∙ ap (Codes.unweight GF16 0) down)
-          ∙ unweight_on GF16 0 GF16_passes (at.i - n - 1 - l) 16,
-      ap (λ (k : ℕ). written c.put_symbols.new.output 0 (bytes (at.i - k) (plainly caption))) (sym sized) ∙ c.put_symbols.ensures (plainly caption) each ∙ at.invariant.2,
-    )
+          ∙ ap (λ (x : ℕ). product GF16 x (Codes.weight GF16 0 16)) (at.invariant.unweights_are l h (omega arith) ∙ ap (Codes.unweight GF16 0) down)
+          ∙ unweight_on GF16 0 GF16_passes (at.i - n - 1 - l) 16;
+      put = ap (λ (k : ℕ). written c.put_symbols.new.output 0 (bytes (at.i - k) (plainly caption))) (sym sized) ∙ c.put_symbols.ensures (plainly caption) each ∙ at.invariant.put;
+    }
 
 pub returns : goal.returns
 unfolding plainly decoded
@@ -80,4 +82,4 @@ returns c =
     let none : at.i ≡ 0 = omega arith in
     sym (row_none (plainly args.caption.now) at.output)
     ∙ ap (λ (k : ℕ). written at.output 0 (bytes k (plainly args.caption.now))) (sym none)
-    ∙ at.invariant.2
+    ∙ at.invariant.put

@@ -18,8 +18,11 @@ plainly caption = plain GF16 0 (symbol 2 caption)
 
 abbrev pub invariant-loop-i : goal.invariant-loop-i
 invariant-loop-i l =
-    (l.i ≤ symbols 2 l.caption) × ((k : ℕ) → k < 16 → k < l.i → get_or l.unweights k 0 ≡ Codes.unweight GF16 0 (l.i - 1 - k))
-    × (written l.output 0 (bytes l.i (plainly l.caption)) ≡ written l.initial.output 0 (bytes (symbols 2 l.caption) (plainly l.caption)))
+    record {
+      inside : l.i ≤ symbols 2 l.caption;
+      unweights_are : (k : ℕ) → k < 16 → k < l.i → get_or l.unweights k 0 ≡ Codes.unweight GF16 0 (l.i - 1 - k);
+      put : written l.output 0 (bytes l.i (plainly l.caption)) ≡ written l.initial.output 0 (bytes (symbols 2 l.caption) (plainly l.caption));
+    }
 
 abbrev pub decreases-loop-i : goal.decreases-loop-i
 decreases-loop-i l =

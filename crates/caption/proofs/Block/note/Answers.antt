@@ -15,15 +15,15 @@ loop-k-preserved c =
     let self : _ = args.self.now in
     let up : self.i + (at.k + 1) ≡ suc (self.i + at.k) = omega arith in
     elim c.if-hits.branch [
-      | then-hits w ↦ (
-        omega (arith, w.found-is),
-        λ test old long each from.
+      | then-hits w ↦ record {
+        few = omega (arith, w.found-is);
+        noted = λ test old long each from.
             again w.list-is w.found-is
-            (noted_listed (at.invariant.1 test old long each from) up refl (each at.k (omega arith) ∙ sym c.hits.ensures ∙ w.if-hits.true) (omega (arith, long))),
-      )
-      | else-hits w ↦ (
-        omega (arith, w.found-is),
-        λ test old long each from.
-            again w.list-is w.found-is (noted_passed (at.invariant.1 test old long each from) up (each at.k (omega arith) ∙ sym c.hits.ensures ∙ w.if-hits.false)),
-      )
+            (noted_listed (at.invariant.noted test old long each from) up refl (each at.k (omega arith) ∙ sym c.hits.ensures ∙ w.if-hits.true) (omega (arith, long)));
+      }
+      | else-hits w ↦ record {
+        few = omega (arith, w.found-is);
+        noted = λ test old long each from.
+            again w.list-is w.found-is (noted_passed (at.invariant.noted test old long each from) up (each at.k (omega arith) ∙ sym c.hits.ensures ∙ w.if-hits.false));
+      }
     ]

@@ -11,7 +11,9 @@ use Rattle.caption.proofs.Block.note.Given as goal
 
 abbrev pub invariant-loop-k : goal.invariant-loop-k
 invariant-loop-k l =
-    (l.found ≤ l.self.i + l.k)
-    × ((test : ℕ → Bool) (old : List ℕ) → length old ≡ length l.initial.list
-    → ((j : ℕ) → j < length l.self.weighed.now → test (l.self.i + j) ≡ hit_at l.self j)
-    → Noted test old l.self.i l.initial.list l.before → Noted test old (l.self.i + l.k) l.list l.found)
+    record {
+      few : l.found ≤ l.self.i + l.k;
+      noted : (test : ℕ → Bool) (old : List ℕ) → length old ≡ length l.initial.list
+          → ((j : ℕ) → j < length l.self.weighed.now → test (l.self.i + j) ≡ hit_at l.self j)
+          → Noted test old l.self.i l.initial.list l.before → Noted test old (l.self.i + l.k) l.list l.found;
+    }
