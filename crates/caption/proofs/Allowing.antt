@@ -1,14 +1,12 @@
 -- What it means that no test of encode and decode, or of a search, applies: in words of lengths, and back.
 -- Assumes nothing.
 use mathlib.Core.Path.{◌≡◌, sym, ap, ◌∙◌}
-use mathlib.Core.Logic.{◌≢◌, dite}
+use mathlib.Core.Logic.{◌≢◌}
 use mathlib.Core.Bool.{and-eq-true_iff}
 use mathlib.Core.List.{List}
-use Prim.Native.Nat.{ℕ, ◌+◌, ◌-◌, ◌%◌, ◌≤◌, ◌<◌}
-use native.Mathlib.Decide.{dec_lt}
-use native.Mathlib.Omega.{arith}
+use Prim.Native.Nat.{ℕ, ◌%◌, ◌≤◌}
 use lib.ListN.{length}
-use borrow.Author.Tests.{leb-true, eqb-true, eqb-false, ltb-false, not-false, lt-leb, le-leb, eq-eqb, ne_eqb, le-ltb}
+use borrow.Author.Tests.{leb-true, eqb-true, eqb-false, ltb-false, not-false, le-leb, eq-eqb, ne_eqb, le-ltb}
 use Rattle.units.specs.Refusals.{first}
 use Rattle.units.specs.Filling.{outcome, outcome_of}
 use Rattle.units.specs.Writing.{written}
@@ -18,7 +16,6 @@ use Rattle.units.proofs.Refusing.{allowed_when}
 use Rattle.signature.specs.Objects.{symbols}
 use Rattle.signature.specs.Kinds.{wide}
 use Rattle.signature.specs.Operations.{whole}
-use Rattle.caption.specs.Codes.{places}
 use Rattle.caption.specs.Recoding.{recode_tests, recoding}
 use Rattle.caption.specs.Searches.{places_for, search_tests}
 use Rattle.std.specs.Prelude.{Ok, Err}
@@ -76,15 +73,3 @@ searchable caption pattern list allowed =
 pub search_allowed : (caption pattern list : List ℕ) → Searchable caption pattern list → first (search_tests caption pattern list) ≡ allowed
 search_allowed caption pattern list s =
     simp (le-leb _ _ s.short, eq-eqb _ _ s.even, eq-eqb _ _ s.pattern_even, le-ltb _ _ s.fits, ne_eqb _ _ s.some)
-
--- at each place the pattern's symbols are inside the field
-pub place_inside : (m l i : ℕ) → i < places m l → i + l ≤ m
-place_inside m l i h =
-    dite (dec_lt l 1) (λ (none : l < 1). let no : places m l ≡ 0 = simp (lt-leb 1 l none) in omega arith)
-    (λ some.
-    let one : 1 ≤ l = omega arith in
-    dite (dec_lt m l) (λ (longer : m < l). let no : places m l ≡ 0 = simp (le-leb 1 l one, lt-leb l m longer) in omega arith)
-    (λ shorter.
-    let fits : l ≤ m = omega arith in
-    let all : places m l ≡ m - l + 1 = simp (le-leb 1 l one, le-leb l m fits) in
-    omega arith))

@@ -2,3 +2,4 @@
 pub mod Codes
 pub mod Recoding
 pub mod Searches
+pub mod Blocks

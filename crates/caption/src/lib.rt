@@ -68,25 +68,21 @@ fn put_code(caption: &[u8], output: &mut [u8])
     weights::put_weights(1, &mut weights);
     let mut block = [0u16; 16];
     let mut sum: u16 = 0;
-    let mut i: usize = 0;
-    while i < count {
-        let n = weights::least(count - i, 16);
-        read_symbols(caption, i, n, &mut block);
+    for i in (0..count).step_by(16) {
+        let n = 16.min(count - i);
+        read_symbols(caption, i, &mut block[..n]);
         weights::weigh(&mut block, &mut weights);
-        sum = put_sums(&block, sum, i, n, output);
-        i += n;
+        sum = put_sums(&block[..n], sum, i, output);
     }
 }
 
-// The n symbols from place i on.
-fn read_symbols(caption: &[u8], i: usize, n: usize, block: &mut [u16])
-    requires { ((i + n) * 2 ≤ length caption.now) × (n ≤ length block.old) }
-    ensures { (l : ℕ) → l < n → get_or block.new l 0 ≡ object_symbol 2 caption.now (i + l) }
+// The symbols from place i on, as many as the block takes.
+fn read_symbols(caption: &[u8], i: usize, block: &mut [u16])
+    requires { (i + length block.old) * 2 ≤ length caption.now }
+    ensures { (l : ℕ) → l < length block.old → get_or block.new l 0 ≡ object_symbol 2 caption.now (i + l) }
 {
-    let mut l: usize = 0;
-    while l < n {
-        block[l] = symbol_at(caption, i + l);
-        l += 1;
+    for (l, symbol) in block.iter_mut().enumerate() {
+        *symbol = symbol_at(caption, i + l);
     }
 }
 
@@ -95,20 +91,18 @@ fn symbol_at(caption: &[u8], i: usize) -> u16
     requires { i * 2 + 1 < length caption.now }
     ensures { result ≡ object_symbol 2 caption.now i }
 {
-    caption[i * 2] as u16 + caption[i * 2 + 1] as u16 * 256
+    u16::from_le_bytes([caption[i * 2], caption[i * 2 + 1]])
 }
 
-// The code from place i on, by the n weighed symbols that each add to the sum. Its last symbol is the answer.
-fn put_sums(block: &[u16], start: u16, i: usize, n: usize, output: &mut [u8]) -> u16
-    requires { ((i + n) * 2 ≤ length output.old) × (n ≤ length block.now) }
-    ensures { (code : ℕ → ℕ) (old : List ℕ) → length old ≡ length output.old → start ≡ code_previous code i → ((l : ℕ) → l < n → code_previous code (i + l) ⊕ get_or block.now l 0 ≡ code (i + l)) → output.old ≡ written old 0 (bytes i code) → (result ≡ code_previous code (i + n)) × (output.new ≡ written old 0 (bytes (i + n) code)) }
+// The code from place i on, by the weighed symbols that each add to the sum. Its last symbol is the answer.
+fn put_sums(block: &[u16], start: u16, i: usize, output: &mut [u8]) -> u16
+    requires { (i + length block.now) * 2 ≤ length output.old }
+    ensures { (code : ℕ → ℕ) (old : List ℕ) → length old ≡ length output.old → start ≡ code_previous code i → ((l : ℕ) → l < length block.now → code_previous code (i + l) ⊕ get_or block.now l 0 ≡ code (i + l)) → output.old ≡ written old 0 (bytes i code) → (result ≡ code_previous code (i + length block.now)) × (output.new ≡ written old 0 (bytes (i + length block.now) code)) }
 {
     let mut sum = start;
-    let mut l: usize = 0;
-    while l < n {
-        sum = field::sum(sum, block[l]);
-        signature::put_two_bytes(sum as usize, output, (i + l) * 2);
-        l += 1;
+    for (l, weighed) in block.iter().enumerate() {
+        sum = field::sum(sum, *weighed);
+        signature::put_two_bytes(usize::from(sum), output, (i + l) * 2);
     }
     sum
 }
@@ -126,25 +120,24 @@ fn put_plain(caption: &[u8], output: &mut [u8])
     );
     let mut block = [0u16; 16];
     let mut i = all.count;
+    // Not `for done in (0..all.count).step_by(16)`: with it decoding takes 7 % longer.
     while i > 0 {
-        let n = weights::least(i, 16);
-        read_changes(caption, i, n, &mut block);
+        let n = 16.min(i);
+        read_changes(caption, i, &mut block[..n]);
         weights::weigh(&mut block, &mut unweights);
-        put_symbols(&block, i, n, output);
+        put_symbols(&block[..n], i, output);
         i -= n;
     }
 }
 
-// What each of the n symbols below place i adds to the code, downward.
-fn read_changes(caption: &[u8], i: usize, n: usize, block: &mut [u16])
-    requires { (i * 2 ≤ length caption.now) × (n ≤ i) × (n ≤ length block.old) }
-    ensures { (l : ℕ) → l < n → get_or block.new l 0 ≡ object_symbol 2 caption.now (i - 1 - l) ⊕ code_previous (object_symbol 2 caption.now) (i - 1 - l) }
+// What each symbol below place i adds to the code, downward, as many as the block takes.
+fn read_changes(caption: &[u8], i: usize, block: &mut [u16])
+    requires { (i * 2 ≤ length caption.now) × (length block.old ≤ i) }
+    ensures { (l : ℕ) → l < length block.old → get_or block.new l 0 ≡ object_symbol 2 caption.now (i - 1 - l) ⊕ code_previous (object_symbol 2 caption.now) (i - 1 - l) }
 {
-    let mut l: usize = 0;
-    while l < n {
+    for (l, change) in block.iter_mut().enumerate() {
         let here = i - 1 - l;
-        block[l] = field::sum(symbol_at(caption, here), previous(caption, here));
-        l += 1;
+        *change = field::sum(symbol_at(caption, here), previous(caption, here));
     }
 }
 
@@ -159,15 +152,13 @@ fn previous(caption: &[u8], i: usize) -> u16
     symbol_at(caption, i - 1)
 }
 
-// The n symbols below place i, downward.
-fn put_symbols(block: &[u16], i: usize, n: usize, output: &mut [u8])
-    requires { (i * 2 ≤ length output.old) × (n ≤ i) × (n ≤ length block.now) }
-    ensures { (s : ℕ → ℕ) → ((l : ℕ) → l < n → get_or block.now l 0 ≡ s (i - 1 - l)) → written output.new 0 (bytes (i - n) s) ≡ written output.old 0 (bytes i s) }
+// The symbols of the block below place i, downward.
+fn put_symbols(block: &[u16], i: usize, output: &mut [u8])
+    requires { (i * 2 ≤ length output.old) × (length block.now ≤ i) }
+    ensures { (s : ℕ → ℕ) → ((l : ℕ) → l < length block.now → get_or block.now l 0 ≡ s (i - 1 - l)) → written output.new 0 (bytes (i - length block.now) s) ≡ written output.old 0 (bytes i s) }
 {
-    let mut l: usize = 0;
-    while l < n {
-        signature::put_two_bytes(block[l] as usize, output, (i - 1 - l) * 2);
-        l += 1;
+    for (l, symbol) in block.iter().enumerate() {
+        signature::put_two_bytes(usize::from(*symbol), output, (i - 1 - l) * 2);
     }
 }
 
@@ -204,13 +195,7 @@ fn places(caption: &[u8], pattern: &[u8]) -> usize
 {
     let m = signature::symbols_in(caption).count;
     let l = signature::symbols_in(pattern).count;
-    if l == 0 {
-        return 0;
-    }
-    if l > m {
-        return 0;
-    }
-    m - l + 1
+    if 1 <= l && l <= m { m - l + 1 } else { 0 }
 }
 
 // One comparison a place: what it is compared with is the pattern's signature, weighted as symbols are. A pattern with no place is not signed.
@@ -227,10 +212,17 @@ fn find(caption: &[u8], pattern: &[u8], list: &mut [usize]) -> Result<usize, Ref
     weights::put_weights(signature::own(1, pattern).s1, &mut weighed);
     let mut found: usize = 0;
     let mut i: usize = 0;
+    // Not `for i in (0..count).step_by(16)`: with it a search takes 7 % longer, as a step looks for the end twice.
     while i < count {
-        let n = weights::least(count - i, 16);
-        if may_hit(caption, l, &weighed, i, n) {
-            found = note(caption, l, &weighed, i, n, list, found);
+        let n = 16.min(count - i);
+        let block = Block {
+            caption,
+            l,
+            i,
+            weighed: &weighed[..n],
+        };
+        if block.may_hit() {
+            found = block.note(list, found);
         }
         weights::move_on(&mut weighed);
         i += n;
@@ -238,58 +230,61 @@ fn find(caption: &[u8], pattern: &[u8], list: &mut [usize]) -> Result<usize, Ref
     Ok(found)
 }
 
-// Whether some of the n places from i on may be hit. Before place 0 there is no symbol to read, so that all may be.
-fn may_hit(caption: &[u8], l: usize, weighed: &[u16], i: usize, n: usize) -> bool
-    requires { ((i + n + l) * 2 ≤ length caption.now + 2) × (n ≤ length weighed.now) }
-    ensures { result ≡ false → (k : ℕ) → k < n → eqb (code_previous (object_symbol 2 caption.now) (i + k + l) ⊕ code_previous (object_symbol 2 caption.now) (i + k)) (get_or weighed.now k 0) ≡ false }
-{
-    if i == 0 {
-        return true;
-    }
-    let mut some = false;
-    let mut k: usize = 0;
-    while k < n {
-        if field::sum(
-            symbol_at(caption, i + k + l - 1),
-            symbol_at(caption, i + k - 1),
-        ) == weighed[k]
-        {
-            some = true;
-        }
-        k += 1;
-    }
-    some
-}
-
-// The hits among the n places from i on, listed after those before them.
-fn note(
-    caption: &[u8],
+// A block of a code's places, from i on and as many as are weighed: where the pattern hits, the l symbols there add up to what is weighed for the place.
+#[derive(Clone, Copy)]
+struct Block<'a> {
+    caption: &'a [u8],
     l: usize,
-    weighed: &[u16],
     i: usize,
-    n: usize,
-    list: &mut [usize],
-    before: usize,
-) -> usize
-    requires { ((i + n + l) * 2 ≤ length caption.now + 2) × (n ≤ length weighed.now) × (i + n ≤ length list.old) × (before ≤ i) }
-    ensures { (test : ℕ → Bool) (old : List ℕ) → length old ≡ length list.old → ((k : ℕ) → k < n → test (i + k) ≡ eqb (code_previous (object_symbol 2 caption.now) (i + k + l) ⊕ code_previous (object_symbol 2 caption.now) (i + k)) (get_or weighed.now k 0)) → list.old ≡ written old 0 (named test i) → before ≡ length (named test i) → (list.new ≡ written old 0 (named test (i + n))) × (result ≡ length (named test (i + n))) }
-{
-    let mut found = before;
-    let mut k: usize = 0;
-    while k < n {
-        if hits(caption, l, weighed[k], i + k) {
-            list[found] = i + k;
-            found += 1;
-        }
-        k += 1;
-    }
-    found
+    weighed: &'a [u16],
+    ghost inside: { (i + length weighed.now + l) * 2 ≤ length caption.now + 2 },
 }
 
-// Whether the l symbols at place i, weighted as they are in the code, add up to this.
-fn hits(caption: &[u8], l: usize, weighed: u16, i: usize) -> bool
-    requires { (i + l) * 2 ≤ length caption.now }
-    ensures { result ≡ eqb (code_previous (object_symbol 2 caption.now) (i + l) ⊕ code_previous (object_symbol 2 caption.now) i) weighed }
-{
-    field::sum(previous(caption, i + l), previous(caption, i)) == weighed
+impl Block<'_> {
+    ghost use Rattle.caption.specs.Blocks.{after, hit_at};
+
+    // Whether some place may be hit. Before place 0 there is no symbol to read, so that all may be.
+    fn may_hit(&self) -> bool
+        ensures { result ≡ false → (k : ℕ) → k < length self.now.weighed.now → hit_at self.now k ≡ false }
+    {
+        if self.i == 0 {
+            return true;
+        }
+        // Every place is looked at: with no early way out, many are compared at once.
+        let mut some = false;
+        for (k, weighed) in self.weighed.iter().enumerate() {
+            some |= field::sum(
+                symbol_at(self.caption, self.i + k + self.l - 1),
+                symbol_at(self.caption, self.i + k - 1),
+            ) == *weighed;
+        }
+        some
+    }
+
+    // The hits among the places, listed after those before them.
+    fn note(&self, list: &mut [usize], before: usize) -> usize
+        requires { (after self.now ≤ length list.old) × (before ≤ self.now.i) }
+        ensures { (test : ℕ → Bool) (old : List ℕ) → length old ≡ length list.old → ((k : ℕ) → k < length self.now.weighed.now → test (self.now.i + k) ≡ hit_at self.now k) → list.old ≡ written old 0 (named test self.now.i) → before ≡ length (named test self.now.i) → (list.new ≡ written old 0 (named test (after self.now))) × (result ≡ length (named test (after self.now))) }
+    {
+        let mut found = before;
+        for k in 0..self.weighed.len() {
+            if self.hits(k) {
+                list[found] = self.i + k;
+                found += 1;
+            }
+        }
+        found
+    }
+
+    // Whether the pattern hits at place i + k.
+    fn hits(&self, k: usize) -> bool
+        requires { k < length self.now.weighed.now }
+        ensures { result ≡ hit_at self.now k }
+    {
+        let i = self.i + k;
+        field::sum(
+            previous(self.caption, i + self.l),
+            previous(self.caption, i),
+        ) == self.weighed[k]
+    }
 }

@@ -1,39 +1,19 @@
--- What a turn of the loops over a block does: a place of a list is set, a digit of a symbol is added.
+-- What a block and a turn of the loops over it are: its content is one, a digit of a symbol is added, and a weight is doubled.
 -- Assumes nothing.
-use mathlib.Core.Path.{◌≡◌, refl, sym, ap, ◌∙◌}
-use mathlib.Core.Logic.{⊎_elim, dite}
+use mathlib.Core.Path.{◌≡◌, sym, ap, ◌∙◌}
+use mathlib.Core.Logic.{dite}
 use native.Mathlib.Decide.{dec_lt}
 use mathlib.Core.List.{List}
-use Prim.Native.Nat.{ℕ, zero, suc, ◌+◌, ◌*◌, ◌^◌, ◌≤◌, ◌<◌, min}
-use native.Mathlib.Nat.{eq-or-lt_of_le, zero-mul, one-mul}
+use Prim.Native.Nat.{ℕ, zero, suc, ◌+◌, ◌*◌, ◌^◌, ◌<◌, min}
+use native.Mathlib.Nat.{zero-mul, one-mul}
+use native.Mathlib.Numerals.{add-one}
 use native.Mathlib.Omega.{arith}
-use lib.ListN.{length, get_or, set, length-set}
-use lib.Seq.{get_or-set_same, get_or-set_other, ext_get_or}
+use lib.Seq.{ext_get_or}
 use Rattle.weights.specs.Blocks.{Set}
 use Rattle.field.specs.Field.{GF16, scaled, doubled, product, power, α}
-use Rattle.field.proofs.Products.{product_doubled}
-use Rattle.field.proofs.Powers.{power_doubled}
+use Rattle.field.proofs.Products.{product_doubled, product_one}
+use Rattle.field.proofs.Powers.{power_zero, power_doubled}
 use Rattle.field.proofs.Instances.{GF16_formed}
-
-pub none_set : (value : ℕ → ℕ) (old : List ℕ) → Set value old 0 old
-none_set value old = record { long = refl; done = λ k h. absurd (omega (arith, h)); kept = λ k h. refl }
-
-pub one_set : {value : ℕ → ℕ} {old new : List ℕ} {l : ℕ} (x : ℕ) → Set value old l new → l < length old → x ≡ value l → Set value old (l + 1) (set new l x)
-one_set {value} {old} {new} {l} x s inside here =
-    record {
-      long = length-set new l x ∙ s.long;
-      done = λ k h. ⊎_elim (λ (e : k ≡ l). ap (λ (m : ℕ). get_or (set new l x) m 0) e ∙ now ∙ ap value (sym e)) (λ (b : k < l). earlier k b) (eq-or-lt_of_le (early k h));
-      kept = λ k h. get_or-set_other new l k x 0 (λ e. absurd (omega (arith, h, e))) ∙ s.kept k (omega (arith, h));
-    }
-  where
-    early : (k : ℕ) → k < l + 1 → k ≤ l
-    early k h = omega (arith, h)
-
-    now : get_or (set new l x) l 0 ≡ value l
-    now = get_or-set_same new l x 0 (omega (arith, inside, s.long)) ∙ here
-
-    earlier : (k : ℕ) → k < l → get_or (set new l x) k 0 ≡ value k
-    earlier k b = get_or-set_other new l k x 0 (λ e. absurd (omega (arith, b, e))) ∙ s.done k b
 
 -- a block is set in one way only
 pub set_once : {value : ℕ → ℕ} {old one other : List ℕ} {l : ℕ} → Set value old l one → Set value old l other → one ≡ other
@@ -52,12 +32,13 @@ digit_scaled zero x h = zero-mul x
 digit_scaled (suc zero) x h = one-mul x
 digit_scaled (suc (suc d)) x h = absurd (omega arith)
 
-pub digit_le : (d x : ℕ) → d < 2 → d * x ≤ x
-digit_le zero x h = omega (arith, zero-mul x)
-digit_le (suc zero) x h = omega (arith, one-mul x)
-digit_le (suc (suc d)) x h = absurd (omega arith)
+-- the first weight, and each other one, which is the double of the one before
 
--- ---- a weight doubled is the next one
+pub first_weight : (x : ℕ) → x < 2 ^ 16 → product GF16 x (power GF16 α 0) ≡ x
+first_weight x h = ap (product GF16 x) (power_zero GF16 GF16_formed α) ∙ product_one GF16 GF16_formed h
 
-pub doubled_turn : (k : ℕ) {x : ℕ} → x < 2 ^ 16 → doubled GF16 (product GF16 x (power GF16 α k)) ≡ product GF16 x (power GF16 α (suc k))
-doubled_turn k h = sym (product_doubled GF16 GF16_formed (power GF16 α k) h) ∙ power_doubled GF16 GF16_formed k h
+pub next_weight : (x k : ℕ) → x < 2 ^ 16 → product GF16 x (power GF16 α (k + 1)) ≡ doubled GF16 (product GF16 x (power GF16 α k))
+next_weight x k h =
+    ap (λ (j : ℕ). product GF16 x (power GF16 α j)) (add-one k)
+    ∙ sym (power_doubled GF16 GF16_formed k h)
+    ∙ product_doubled GF16 GF16_formed (power GF16 α k) h

@@ -6,22 +6,14 @@ ghost use Rattle.weights.specs.Blocks.{Set};
 ghost use Rattle.field.specs.Field.{GF16, α};
 ghost use Rattle.field.specs.Field.{product as field_product, power as field_power};
 
-pub fn least(a: usize, b: usize) -> usize
-    ensures { result ≡ min a b }
-{
-    if a < b { a } else { b }
-}
-
 // The weights of a block, each the double of the one before.
 pub fn put_weights(first: u16, weights: &mut [u16])
     ensures { Set (λ l. field_product GF16 first (field_power GF16 α l)) weights.old (length weights.old) weights.new }
 {
-    let mut weight = first;
-    let mut l: usize = 0;
-    while l < weights.len() {
-        weights[l] = weight;
-        weight = field::double(weight);
-        l += 1;
+    let mut next = first;
+    for weight in weights.iter_mut() {
+        *weight = next;
+        next = field::double(next);
     }
 }
 
@@ -30,52 +22,36 @@ pub fn weigh(block: &mut [u16], weights: &mut [u16])
     ensures product { Set (λ l. field_product GF16 (get_or block.old l 0) (get_or weights.old l 0)) block.old (min (length block.old) (length weights.old)) block.new }
     ensures weight { Set (λ l. field_product GF16 (get_or weights.old l 0) (field_power GF16 α 16)) weights.old (min (length block.old) (length weights.old)) weights.new }
 {
-    let n = least(block.len(), weights.len());
-    let mut l: usize = 0;
-    while l < n {
-        let w = weighed(block[l], weights[l]);
-        block[l] = w.product;
-        weights[l] = w.weight;
-        l += 1;
+    // By places: of what a `zip` of two `iter_mut` writes, a proof knows the lengths alone.
+    for l in 0..block.len().min(weights.len()) {
+        let (product, next) = weighed(block[l], weights[l]);
+        block[l] = product;
+        weights[l] = next;
     }
 }
 
-// A symbol times its weight, and the weight 16 symbols on.
-#[derive(Clone, Copy)]
-struct Weighing {
-    product: u16,
-    weight: u16,
-}
-
-// A digit of the symbol a turn, and no branch: so many symbols are weighed at once.
-fn weighed(symbol: u16, weight: u16) -> Weighing
-    ensures product { result.product ≡ field_product GF16 symbol weight }
-    ensures weight { result.weight ≡ field_product GF16 weight (field_power GF16 α 16) }
+// A symbol times its weight, and the weight 16 symbols on. A digit of the symbol a turn, and no branch: so many symbols are weighed at once.
+fn weighed(symbol: u16, weight: u16) -> (u16, u16)
+    ensures product { result.0 ≡ field_product GF16 symbol weight }
+    ensures weight { result.1 ≡ field_product GF16 weight (field_power GF16 α 16) }
 {
     let mut r: u16 = 0;
     let mut x = weight;
     let mut y = symbol;
-    let mut turn: usize = 0;
-    while turn < 16 {
+    for _ in 0..u16::BITS {
         r = field::sum(y % 2 * x, r);
         x = field::double(x);
-        y = y / 2;
-        turn += 1;
+        y /= 2;
     }
-    Weighing {
-        product: r,
-        weight: x,
-    }
+    (r, x)
 }
 
 // Weights 16 symbols on.
 pub fn move_on(weights: &mut [u16])
     ensures { Set (λ l. field_product GF16 (get_or weights.old l 0) (field_power GF16 α 16)) weights.old (length weights.old) weights.new }
 {
-    let mut l: usize = 0;
-    while l < weights.len() {
-        weights[l] = moved(weights[l]);
-        l += 1;
+    for weight in weights.iter_mut() {
+        *weight = moved(*weight);
     }
 }
 

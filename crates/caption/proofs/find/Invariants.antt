@@ -4,7 +4,7 @@ use mathlib.Core.Path.{◌≡◌}
 use mathlib.Core.Bool.{Bool}
 use mathlib.Core.List.{List}
 use Prim.Native.Nat.{ℕ, ◌+◌, ◌-◌, ◌≤◌, ◌<◌}
-use lib.ListN.{length, get_or}
+use lib.ListN.{get_or}
 use Rattle.units.proofs.Noting.{Noted}
 use Rattle.field.specs.Field.{GF16, product}
 use Rattle.signature.specs.Signatures.{signature}
@@ -19,10 +19,12 @@ hitting caption pattern = hit GF16 0 (symbol 2 caption) (symbols 2 pattern) (sym
 
 abbrev pub invariant-loop-i : goal.invariant-loop-i
 invariant-loop-i l =
-    (l.i ≤ places_for l.caption l.pattern) × (length l.weighed ≡ 16)
-    × (l.i < places_for l.caption l.pattern → (k : ℕ) → k < 16 → get_or l.weighed k 0 ≡ product GF16 (signature GF16 2 l.pattern 1) (weight GF16 0 (l.i + k)))
-    × Noted (hitting l.caption l.pattern) l.initial.list l.i l.list l.found
+    record {
+      inside : l.i ≤ places_for l.caption l.pattern;
+      weighed_is : l.i < places_for l.caption l.pattern → (k : ℕ) → k < 16 → get_or l.weighed k 0 ≡ product GF16 (signature GF16 2 l.pattern 1) (weight GF16 0 (l.i + k));
+      noted : Noted (hitting l.caption l.pattern) l.initial.list l.i l.list l.found;
+    }
 
 abbrev pub decreases-loop-i : goal.decreases-loop-i
 decreases-loop-i l =
-    places_for l.caption l.pattern - l.i
+    l.count - l.i

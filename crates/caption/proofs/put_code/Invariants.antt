@@ -2,8 +2,8 @@
 -- Assumes nothing.
 use mathlib.Core.Path.{◌≡◌}
 use mathlib.Core.List.{List}
-use Prim.Native.Nat.{ℕ, ◌+◌, ◌-◌, ◌≤◌, ◌<◌}
-use lib.ListN.{length, get_or}
+use Prim.Native.Nat.{ℕ, ◌+◌, ◌≤◌, ◌<◌}
+use lib.ListN.{get_or}
 use Rattle.units.specs.Writing.{written}
 use Rattle.field.specs.Field.{GF16}
 use Rattle.signature.specs.Objects.{symbol, symbols}
@@ -18,10 +18,9 @@ code caption = coded GF16 0 (symbol 2 caption)
 
 abbrev pub invariant-loop-i : goal.invariant-loop-i
 invariant-loop-i l =
-    (l.i ≤ symbols 2 l.caption) × (length l.weights ≡ 16) × (length l.block ≡ 16) × (length l.output ≡ length l.initial.output)
-    × (l.i < symbols 2 l.caption → (k : ℕ) → k < 16 → get_or l.weights k 0 ≡ Codes.weight GF16 0 (l.i + k))
-    × (l.sum ≡ previous (code l.caption) l.i) × (l.output ≡ written l.initial.output 0 (bytes l.i (code l.caption)))
-
-abbrev pub decreases-loop-i : goal.decreases-loop-i
-decreases-loop-i l =
-    symbols 2 l.caption - l.i
+    record {
+      inside : l.i ≤ symbols 2 l.caption;
+      weights_are : l.i < symbols 2 l.caption → (k : ℕ) → k < 16 → get_or l.weights k 0 ≡ Codes.weight GF16 0 (l.i + k);
+      sum_is : l.sum ≡ previous (code l.caption) l.i;
+      put : l.output ≡ written l.initial.output 0 (bytes l.i (code l.caption));
+    }

@@ -3,7 +3,7 @@
 use mathlib.Core.Path.{◌≡◌}
 use mathlib.Core.List.{List}
 use Prim.Native.Nat.{ℕ, ◌-◌, ◌≤◌, ◌<◌}
-use lib.ListN.{length, get_or}
+use lib.ListN.{get_or}
 use Rattle.units.specs.Writing.{written}
 use Rattle.field.specs.Field.{GF16}
 use Rattle.signature.specs.Objects.{symbol, symbols}
@@ -18,9 +18,11 @@ plainly caption = plain GF16 0 (symbol 2 caption)
 
 abbrev pub invariant-loop-i : goal.invariant-loop-i
 invariant-loop-i l =
-    (l.i ≤ symbols 2 l.caption) × (length l.unweights ≡ 16) × (length l.block ≡ 16) × (length l.output ≡ length l.initial.output)
-    × ((k : ℕ) → k < 16 → k < l.i → get_or l.unweights k 0 ≡ Codes.unweight GF16 0 (l.i - 1 - k))
-    × (written l.output 0 (bytes l.i (plainly l.caption)) ≡ written l.initial.output 0 (bytes (symbols 2 l.caption) (plainly l.caption)))
+    record {
+      inside : l.i ≤ symbols 2 l.caption;
+      unweights_are : (k : ℕ) → k < 16 → k < l.i → get_or l.unweights k 0 ≡ Codes.unweight GF16 0 (l.i - 1 - k);
+      put : written l.output 0 (bytes l.i (plainly l.caption)) ≡ written l.initial.output 0 (bytes (symbols 2 l.caption) (plainly l.caption));
+    }
 
 abbrev pub decreases-loop-i : goal.decreases-loop-i
 decreases-loop-i l =

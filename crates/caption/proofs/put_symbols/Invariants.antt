@@ -1,7 +1,7 @@
 -- `caption::put_symbols` meets its contract. The invariant: what is still to be written, over what is there, gives what all of it gives.
 -- Assumes nothing.
 use mathlib.Core.Path.{◌≡◌}
-use Prim.Native.Nat.{ℕ, ◌-◌, ◌≤◌, ◌<◌}
+use Prim.Native.Nat.{ℕ, ◌-◌, ◌<◌}
 use lib.ListN.{length, get_or}
 use Rattle.units.specs.Writing.{written}
 use Rattle.caption.specs.Recoding.{bytes}
@@ -9,9 +9,4 @@ use Rattle.caption.proofs.put_symbols.Given as goal
 
 abbrev pub invariant-loop-l : goal.invariant-loop-l
 invariant-loop-l l =
-    (l.l ≤ l.n) × (length l.output ≡ length l.initial.output)
-    × ((s : ℕ → ℕ) → ((k : ℕ) → k < l.n → get_or l.block k 0 ≡ s (l.i - 1 - k)) → written l.output 0 (bytes (l.i - l.l) s) ≡ written l.initial.output 0 (bytes l.i s))
-
-abbrev pub decreases-loop-l : goal.decreases-loop-l
-decreases-loop-l l =
-    l.n - l.l
+    (s : ℕ → ℕ) → ((k : ℕ) → k < length l.block → get_or l.block k 0 ≡ s (l.i - 1 - k)) → written l.output 0 (bytes (l.i - l.l) s) ≡ written l.initial.output 0 (bytes l.i s)

@@ -1,16 +1,13 @@
 -- `caption::read_changes` meets its contract. The invariant: l changes are read.
 -- Assumes nothing.
-use Prim.Native.Nat.{◌-◌, ◌≤◌}
+use mathlib.Core.Path.{◌≡◌}
+use Prim.Native.Nat.{ℕ, ◌-◌, ◌<◌}
+use lib.ListN.{get_or}
 use Rattle.field.specs.Field.{◌⊕◌}
 use Rattle.signature.specs.Objects.{symbol}
 use Rattle.caption.specs.Codes.{previous}
-use Rattle.weights.specs.Blocks.{Set}
 use Rattle.caption.proofs.read_changes.Given as goal
 
 abbrev pub invariant-loop-l : goal.invariant-loop-l
 invariant-loop-l l =
-    (l.l ≤ l.n) × Set (λ k. symbol 2 l.caption (l.i - 1 - k) ⊕ previous (symbol 2 l.caption) (l.i - 1 - k)) l.initial.block l.l l.block
-
-abbrev pub decreases-loop-l : goal.decreases-loop-l
-decreases-loop-l l =
-    l.n - l.l
+    (k : ℕ) → k < l.l → get_or l.block k 0 ≡ symbol 2 l.caption (l.i - 1 - k) ⊕ previous (symbol 2 l.caption) (l.i - 1 - k)

@@ -1,7 +1,7 @@
--- `caption::symbol_at` meets its contract: two bytes, low byte first, fit a symbol.
+-- `caption::symbol_at` meets its contract: two bytes, low byte first, are a symbol.
 -- Assumes nothing.
-use mathlib.Core.Path.{sym}
 use Prim.Native.Nat.{◌*◌}
+use native.Mathlib.Omega.{arith}
 use Rattle.signature.proofs.Numbers.{two_bytes}
 use Rattle.signature.specs.Objects.{symbol}
 use Rattle.caption.proofs.symbol_at.Goals as goal
@@ -9,4 +9,4 @@ use Rattle.caption.proofs.symbol_at.Goals as goal
 pub returns : goal.returns
 unfolding symbol
 returns c =
-    sym (two_bytes c.args.caption.now (c.args.i * 2))
+    omega (arith, c.from_le_bytes.ensures, two_bytes c.args.caption.now (c.args.i * 2))

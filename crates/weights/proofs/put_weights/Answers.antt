@@ -1,34 +1,19 @@
--- `weights::put_weights` meets its contract. The invariant: the weights before l are put, and the next is at hand.
+-- `weights::put_weights` meets its contract. The invariant: the weights before are put, and the next is at hand.
 -- Assumes nothing.
 use mathlib.Core.Path.{sym, ap, ◌∙◌}
-use Prim.Native.Nat.{ℕ, ◌<◌}
 use native.Mathlib.Omega.{arith}
-use native.Mathlib.Numerals.{add-one}
-use lib.ListN.{length}
-use Rattle.field.proofs.Instances.{GF16_formed}
-use Rattle.field.proofs.Powers.{power_zero}
-use Rattle.field.proofs.Products.{product_one}
-use Rattle.field.specs.Field.{GF16, product, power, doubled, α}
-use Rattle.weights.proofs.Turns.{none_set, one_set, doubled_turn}
+use Rattle.std.proofs.Common.{rules}
+use Rattle.field.specs.Field.{GF16, doubled}
+use Rattle.weights.proofs.Turns.{first_weight, next_weight}
 use Rattle.weights.proofs.put_weights.Goals as goal
 
-pub loop-l-init : goal.loop-l-init
-loop-l-init c =
-    let args : _ = c.args in (
-      omega arith,
-      none_set _ args.weights.now,
-      sym (ap (product GF16 args.first) (power_zero GF16 GF16_formed α) ∙ product_one GF16 GF16_formed (omega arith)),
-    )
+pub loop-weight-init : goal.loop-weight-init
+loop-weight-init c = record { set = search rules; next_is = sym (first_weight c.args.first (omega arith)) }
 
-pub loop-l-preserved : goal.loop-l-preserved
-loop-l-preserved c =
-    let at : _ = c.loop-l in
-    let args : _ = c.args in
-    let inside : at.l < length args.weights.now = omega (arith, at.invariant.1.long) in (
-      omega arith,
-      one_set at.weight at.invariant.1 inside at.invariant.2,
-      c.double-weight.ensures
-          ∙ ap (doubled GF16) at.invariant.2
-          ∙ doubled_turn at.l (omega arith)
-          ∙ ap (λ (k : ℕ). product GF16 args.first (power GF16 α k)) (sym (add-one at.l)),
-    )
+pub loop-weight-preserved : goal.loop-weight-preserved
+loop-weight-preserved c =
+    let at : _ = c.loop-weight in
+    record {
+      set = search rules;
+      next_is = c.double-next.ensures ∙ ap (doubled GF16) at.invariant.next_is ∙ sym (next_weight c.args.first at.weight-index (omega arith));
+    }

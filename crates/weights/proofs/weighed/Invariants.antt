@@ -1,15 +1,15 @@
 -- `weights::weighed` meets its contract. The invariant: r and the product of what is left sum to the product that is asked for, and x is the weight so many symbols on.
 -- Assumes nothing.
 use mathlib.Core.Path.{◌≡◌}
-use Prim.Native.Nat.{◌-◌, ◌/◌, ◌^◌, ◌≤◌, ◌<◌}
+use Prim.Native.Nat.{◌/◌, ◌^◌, ◌<◌}
 use Rattle.field.specs.Field.{GF16, ◌⊕◌, product, power, α}
 use Rattle.weights.proofs.weighed.Given as goal
 
-abbrev pub invariant-loop-turn : goal.invariant-loop-turn
-invariant-loop-turn l =
-    (l.turn ≤ 16) × (l.x < 65536) × (l.y ≡ l.symbol / 2 ^ l.turn) × (l.r ⊕ product GF16 l.x l.y ≡ product GF16 l.weight l.symbol)
-    × (l.x ≡ product GF16 l.weight (power GF16 α l.turn))
-
-abbrev pub decreases-loop-turn : goal.decreases-loop-turn
-decreases-loop-turn l =
-    16 - l.turn
+abbrev pub invariant-loop : goal.invariant-loop
+invariant-loop l =
+    record {
+      x_small : l.x < 65536;
+      y_is : l.y ≡ l.symbol / 2 ^ l.counter;
+      sum_is : l.r ⊕ product GF16 l.x l.y ≡ product GF16 l.weight l.symbol;
+      x_is : l.x ≡ product GF16 l.weight (power GF16 α l.counter);
+    }
