@@ -6,6 +6,13 @@ ghost use Rattle.weights.specs.Blocks.{Set};
 ghost use Rattle.field.specs.Field.{GF16, α};
 ghost use Rattle.field.specs.Field.{product as field_product, power as field_power};
 
+// The library's `min`, which callers here take; this stays for what is promised of it, `least_one_answer`.
+pub fn least(a: usize, b: usize) -> usize
+    ensures { result ≡ min a b }
+{
+    a.min(b)
+}
+
 // The weights of a block, each the double of the one before.
 pub fn put_weights(first: u16, weights: &mut [u16])
     ensures { Set (λ l. field_product GF16 first (field_power GF16 α l)) weights.old (length weights.old) weights.new }
