@@ -13,6 +13,14 @@ const STDIN: i32 = 0;
 
 const STDOUT: i32 = 1;
 
+// What stands on standard input, or as much of it as there is room for.
+pub fn input(room: &mut [u8]) -> &[u8]
+    ensures { length result.now ≤ length room.old }
+{
+    let got = io::read_full(STDIN, room);
+    &room[..got]
+}
+
 // As much of a buffer as is lent: all of it where it is shorter.
 pub fn lent<T>(buffer: &[T], count: usize) -> &[T]
     ensures { result.now ≡ take (min count (length buffer.now)) buffer.now }
@@ -37,6 +45,12 @@ pub fn set(b: &mut [u8], i: usize, x: u8)
     }
 }
 
+pub fn text(t: &[u8])
+    ensures { result ≡ tt }
+{
+    io::write_all(STDOUT, t);
+}
+
 // Standard output, as a writer that never fails: what a write leaves out is missed when the output is compared.
 #[derive(Clone, Copy)]
 struct Output;
@@ -46,20 +60,6 @@ impl Write for Output {
         text(s.as_bytes());
         Ok(())
     }
-}
-
-// What stands on standard input, or as much of it as there is room for.
-pub fn input(room: &mut [u8]) -> &[u8]
-    ensures { length result.now ≤ length room.old }
-{
-    let got = io::read_full(STDIN, room);
-    &room[..got]
-}
-
-pub fn text(t: &[u8])
-    ensures { result ≡ tt }
-{
-    io::write_all(STDOUT, t);
 }
 
 pub fn print<D: Display + Drop>(what: D)
