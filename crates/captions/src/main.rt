@@ -3,41 +3,25 @@
 // Of a buffer that is shorter than asked for, all is lent.
 #![tactic(auto)]
 
-use program::{lent, lent_mut};
+use program::Buffer;
 use units::Listed;
-
-// How much of each buffer is lent.
-#[derive(Drop)]
-struct Lent {
-    caption: usize,
-    pattern: usize,
-    output: usize,
-    list: usize,
-}
 
 #[derive(Drop)]
 struct Desk {
-    caption: [u8; 65_538],
-    pattern: [u8; 200_000],
-    output: [u8; 65_538],
-    list: [usize; 32_770],
-    lent: Lent,
+    caption: Buffer<u8, 65_538>,
+    pattern: Buffer<u8, 200_000>,
+    output: Buffer<u8, 65_538>,
+    list: Buffer<usize, 32_770>,
 }
 
 fn main() {
     let mut room = [0u8; 16_384];
     let (commands, _) = program::input(&mut room).as_chunks::<4>();
     let mut desk = Desk {
-        caption: [0; 65_538],
-        pattern: [0; 200_000],
-        output: [0xEE; 65_538],
-        list: [99; 32_770],
-        lent: Lent {
-            caption: 0,
-            pattern: 0,
-            output: 0,
-            list: 0,
-        },
+        caption: Buffer::new(0),
+        pattern: Buffer::new(0),
+        output: Buffer::new(0xEE),
+        list: Buffer::new(99),
     };
     for [letter, low, middle, high] in commands {
         desk.command(*letter, u16::from_le_bytes([*low, *middle]), *high);
@@ -50,15 +34,15 @@ impl Desk {
         let place = usize::from(x);
         let n = place + usize::from(high) * 65_536;
         match letter {
-            b'C' => program::set(&mut self.caption, place, high),
-            b'P' => program::set(&mut self.pattern, place, high),
-            b'F' => fill(&mut self.caption, high),
-            b'G' => fill(&mut self.pattern, high),
-            b'B' => self.caption.copy_from_slice(&self.output),
-            b'c' => self.lent.caption = n,
-            b'p' => self.lent.pattern = n,
-            b'o' => self.lent.output = n,
-            b'l' => self.lent.list = n,
+            b'C' => program::set(&mut self.caption.all, place, high),
+            b'P' => program::set(&mut self.pattern.all, place, high),
+            b'F' => fill(&mut self.caption.all, high),
+            b'G' => fill(&mut self.pattern.all, high),
+            b'B' => self.caption.all = self.output.all,
+            b'c' => self.caption.lent = n,
+            b'p' => self.pattern.lent = n,
+            b'o' => self.output.lent = n,
+            b'l' => self.list.lent = n,
             b'e' => self.encode(),
             b'd' => self.decode(),
             b's' => self.search(),
@@ -67,27 +51,23 @@ impl Desk {
     }
 
     fn encode(&mut self) {
-        let caption = lent(&self.caption, self.lent.caption);
-        let output = lent_mut(&mut self.output, self.lent.output);
-        program::filled(caption::encode(caption, output));
-        ends(&self.output, caption.len());
+        let caption = self.caption.part();
+        program::filled(caption::encode(caption, self.output.part_mut()));
+        ends(&self.output.all, caption.len());
     }
 
     fn decode(&mut self) {
-        let caption = lent(&self.caption, self.lent.caption);
-        let output = lent_mut(&mut self.output, self.lent.output);
-        program::filled(caption::decode(caption, output));
-        ends(&self.output, caption.len());
+        let caption = self.caption.part();
+        program::filled(caption::decode(caption, self.output.part_mut()));
+        ends(&self.output.all, caption.len());
     }
 
     fn search(&mut self) {
-        let caption = lent(&self.caption, self.lent.caption);
-        let pattern = lent(&self.pattern, self.lent.pattern);
-        let list = lent_mut(&mut self.list, self.lent.list);
-        let answer = caption::search(caption, pattern, list);
+        let caption = self.caption.part();
+        let answer = caption::search(caption, self.pattern.part(), self.list.part_mut());
         program::listed("places", answer);
-        program::numbers(part(&self.list, 0, 6));
-        program::numbers(part(&self.list, count(answer).saturating_sub(4), 6));
+        program::numbers(part(&self.list.all, 0, 6));
+        program::numbers(part(&self.list.all, count(answer).saturating_sub(4), 6));
     }
 }
 
@@ -114,5 +94,5 @@ fn count(a: Listed) -> usize {
 
 // At most so many, from a place on.
 fn part<T>(all: &[T], from: usize, most: usize) -> &[T] {
-    lent(&all[from.min(all.len())..], most)
+    program::start(&all[from.min(all.len())..], most)
 }

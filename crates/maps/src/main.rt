@@ -2,7 +2,7 @@
 // The file `stdout` beside this has what they should be, from a program with tables of logarithms.
 #![tactic(auto)]
 
-use program::{lent, lent_mut};
+use program::Buffer;
 use units::Bytes;
 
 fn main() {
@@ -56,14 +56,16 @@ fn edges() {
 
 // A map of so many bytes of 5A hex, for an output of so much room.
 fn make(what: &str, n: usize, page: usize, bytes: usize, room: usize) {
-    let bucket = [0x5A; 65_537];
-    let mut output = [0xEE; 45_074];
+    let bucket = Buffer {
+        all: [0x5A; 65_537],
+        lent: bytes,
+    };
+    let mut output = Buffer {
+        all: [0xEE; 45_074],
+        lent: room,
+    };
+    let page = Bytes { count: page };
     program::about(what);
-    program::filled(map::make(
-        n,
-        Bytes { count: page },
-        lent(&bucket, bytes),
-        lent_mut(&mut output, room),
-    ));
-    program::bytes(lent(&output, 40));
+    program::filled(map::make(n, page, bucket.part(), output.part_mut()));
+    program::bytes(program::start(&output.all, 40));
 }

@@ -1,17 +1,24 @@
--- No second answer meets the contract of the functions of `program` that lend a part of a buffer or set a byte of it.
+-- No second answer meets the contract of the functions of `program` that answer a buffer or a part of it, or set a byte of it.
 -- Assumes nothing.
 use mathlib.Core.Path.{sym, ◌∙◌, ◌≡◌}
-use denote.RattleType.{RattleType}
-use denote.Param.Laws.{Laws}
-use Rattle.program.proofs.lent.Reads as Lent
-use Rattle.program.proofs.lent_mut.Reads as LentMut
+use Rattle.program.proofs.Buffer.new.Reads as New
+use Rattle.program.proofs.Buffer.part.Reads as Part
+use Rattle.program.proofs.Buffer.part_mut.Reads as PartMut
+use Rattle.program.proofs.start.Reads as Start
 use Rattle.program.proofs.set.Reads as Set
 
-pub lent_one_answer : (T : RattleType) (L : Laws T) (κs : _) (a : _) (r s : _) (x y : _) → Lent.Post T L κs a r x → Lent.Post T L κs a s y → r.now ≡ s.now
-lent_one_answer T L κs a r s x y p q = p ∙ sym q
+-- of both fields
+pub new_one_answer : (T : _) (N : _) (L : _) (F : _) (C : _) (G : _) (D : _) (κs : _) (a : _) (r s : _) (x y : _) → New.Post T N L F C G D κs a r x → New.Post T N L F C G D κs a s y → (r.all ≡ s.all) × (r.lent ≡ s.lent)
+new_one_answer T N L F C G D κs a r s x y p q = (p.0 ∙ sym q.0, p.1 ∙ sym q.1)
 
-pub lent_mut_one_answer : (T : RattleType) (L : Laws T) (κs : _) (a : _) (r s : _) (x y : _) → LentMut.Post T L κs a r x → LentMut.Post T L κs a s y → r.now ≡ s.now
-lent_mut_one_answer T L κs a r s x y p q = p ∙ sym q
+pub part_one_answer : (T : _) (N : _) (L : _) (F : _) (κs : _) (a : _) (r s : _) (x y : _) → Part.Post T N L F κs a r x → Part.Post T N L F κs a s y → r.now ≡ s.now
+part_one_answer T N L F κs a r s x y p q = p ∙ sym q
+
+pub part_mut_one_answer : (T : _) (N : _) (L : _) (F : _) (κs : _) (a : _) (r s : _) (x y : _) → PartMut.Post T N L F κs a r x → PartMut.Post T N L F κs a s y → r.now ≡ s.now
+part_mut_one_answer T N L F κs a r s x y p q = p ∙ sym q
+
+pub start_one_answer : (T : _) (L : _) (κs : _) (a : _) (r s : _) (x y : _) → Start.Post T L κs a r x → Start.Post T L κs a s y → r.now ≡ s.now
+start_one_answer T L κs a r s x y p q = p ∙ sym q
 
 -- of the buffer
 pub set_one_answer : (κs : _) (a : _) (r s : _) (x y : _) → Set.Post κs a r x → Set.Post κs a s y → x.0.now ≡ y.0.now

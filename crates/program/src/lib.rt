@@ -2,7 +2,7 @@
 // nothing, and its contract says so: what was printed is compared when the program is run.
 #![tactic(auto)]
 
-ghost use Rattle.std.specs.Prelude.{◌≡◌, ◌≤◌, length, min, slice_set, take};
+ghost use Rattle.std.specs.Prelude.{◌≡◌, ◌≤◌, length, min, replicate, slice_set, take};
 
 use signature::{Answer, Signature};
 use std::fmt::{self, Display, Write};
@@ -21,19 +21,45 @@ pub fn input(room: &mut [u8]) -> &[u8]
     &room[..got]
 }
 
-// As much of a buffer as is lent: all of it where it is shorter.
-pub fn lent<T>(buffer: &[T], count: usize) -> &[T]
-    ensures { result.now ≡ take (min count (length buffer.now)) buffer.now }
-{
-    &buffer[..count.min(buffer.len())]
+// A buffer, and how much of it is lent: all of it where it is shorter.
+#[derive(Drop)]
+pub struct Buffer<T, const N: usize> {
+    pub all: [T; N],
+    pub lent: usize,
 }
 
-// The same, to write in.
-pub fn lent_mut<T>(buffer: &mut [T], count: usize) -> &mut [T]
-    ensures { result.now ≡ take (min count (length buffer.old)) buffer.old }
+impl<T: Copy, const N: usize> Buffer<T, N> {
+    // Each element is x, and nothing is lent.
+    pub fn new(x: T) -> Buffer<T, N>
+        ensures { (result.all ≡ replicate N x) × (result.lent ≡ 0) }
+    {
+        Buffer {
+            all: [x; N],
+            lent: 0,
+        }
+    }
+}
+
+impl<T, const N: usize> Buffer<T, N> {
+    pub fn part(&self) -> &[T]
+        ensures { result.now ≡ take (min self.now.lent N) self.now.all }
+    {
+        start(&self.all, self.lent)
+    }
+
+    pub fn part_mut(&mut self) -> &mut [T]
+        ensures { result.now ≡ take (min self.old.lent N) self.old.all }
+    {
+        let most = self.lent.min(N);
+        &mut self.all[..most]
+    }
+}
+
+// The first elements, at most so many.
+pub fn start<T>(all: &[T], most: usize) -> &[T]
+    ensures { result.now ≡ take (min most (length all.now)) all.now }
 {
-    let most = count.min(buffer.len());
-    &mut buffer[..most]
+    &all[..most.min(all.len())]
 }
 
 // Sets one byte, where there is one.

@@ -2,36 +2,27 @@
 // the answer and what the buffers hold then, those parts too that were not lent. Of a buffer that is shorter than asked for, all is lent.
 #![tactic(auto)]
 
-use program::{lent, lent_mut};
+use program::Buffer;
 use store::{Answer, Place};
 use units::Bytes;
-
-// How much of the image and of the map is lent.
-#[derive(Drop)]
-struct Lent {
-    image: usize,
-    map: usize,
-}
 
 // The buffers of the backup.
 #[derive(Drop)]
 struct Desk {
-    table: [u8; 12],
-    image: [u8; 12],
-    map: [u8; 96],
-    list: [usize; 8],
-    lent: Lent,
+    table: Buffer<u8, 12>,
+    image: Buffer<u8, 12>,
+    map: Buffer<u8, 96>,
+    list: Buffer<usize, 8>,
 }
 
 fn main() {
     let mut room = [0u8; 6144];
     let (commands, _) = program::input(&mut room).as_chunks::<3>();
     let mut desk = Desk {
-        table: [0; 12],
-        image: [0; 12],
-        map: [0; 96],
-        list: [99; 8],
-        lent: Lent { image: 0, map: 0 },
+        table: Buffer::new(0),
+        image: Buffer::new(0),
+        map: Buffer::new(0),
+        list: Buffer::new(99),
     };
     for [letter, a, b] in commands {
         desk.command(*letter, *a, *b);
@@ -43,11 +34,11 @@ impl Desk {
         let x = usize::from(a);
         let y = usize::from(b);
         match letter {
-            b'T' => program::set(&mut self.table, x, b),
-            b'I' => program::set(&mut self.image, x, b),
-            b'M' => program::set(&mut self.map, x, b),
-            b'i' => self.lent.image = x,
-            b'm' => self.lent.map = x,
+            b'T' => program::set(&mut self.table.all, x, b),
+            b'I' => program::set(&mut self.image.all, x, b),
+            b'M' => program::set(&mut self.map.all, x, b),
+            b'i' => self.image.lent = x,
+            b'm' => self.map.lent = x,
             b'n' => self.make(x, y),
             b's' => self.store(x, y),
             b't' => self.step(x, y),
@@ -59,47 +50,52 @@ impl Desk {
 
     // The map of the image, with n components and pages of so many bytes.
     fn make(&mut self, n: usize, page: usize) {
-        let image = lent(&self.image, self.lent.image);
-        let map = lent_mut(&mut self.map, self.lent.map);
-        program::filled(map::make(n, Bytes { count: page }, image, map));
-        program::bytes(&self.map);
+        let page = Bytes { count: page };
+        program::filled(map::make(n, page, self.image.part(), self.map.part_mut()));
+        program::bytes(&self.map.all);
     }
 
     fn store(&mut self, x: usize, y: usize) {
-        let table = lent(&self.table, x);
-        let image = lent_mut(&mut self.image, self.lent.image);
-        let map = lent_mut(&mut self.map, self.lent.map);
-        let list = lent_mut(&mut self.list, y);
-        program::listed("pages", store::store(table, image, map, list));
-        program::bytes(&self.image);
-        program::bytes(&self.map);
-        program::numbers(&self.list);
+        self.table.lent = x;
+        self.list.lent = y;
+        let answer = store::store(
+            self.table.part(),
+            self.image.part_mut(),
+            self.map.part_mut(),
+            self.list.part_mut(),
+        );
+        program::listed("pages", answer);
+        program::bytes(&self.image.all);
+        program::bytes(&self.map.all);
+        program::numbers(&self.list.all);
     }
 
     fn step(&mut self, page: usize, y: usize) {
-        let table = lent(&self.table, y);
-        let image = lent_mut(&mut self.image, self.lent.image);
-        let map = lent_mut(&mut self.map, self.lent.map);
-        let step = Place { page }.step(table, image, map);
+        self.table.lent = y;
+        let place = Place { page };
+        let step = place.step(
+            self.table.part(),
+            self.image.part_mut(),
+            self.map.part_mut(),
+        );
         stepped(step.answer);
         program::line(format_args!("next {}", step.next.page));
-        program::bytes(&self.image);
-        program::bytes(&self.map);
+        program::bytes(&self.image.all);
+        program::bytes(&self.map.all);
     }
 
     fn load_page(&self, k: usize) {
-        let image = lent(&self.image, self.lent.image);
-        let map = lent(&self.map, self.lent.map);
+        let image = self.image.part();
+        let map = self.map.part();
         program::asked(load::ask_page(image, map, k));
         program::bytes(load::load_page(image, map, k));
     }
 
     fn load_bucket(&mut self, x: usize) {
-        let image = lent(&self.image, self.lent.image);
-        let map = lent(&self.map, self.lent.map);
-        let table = lent_mut(&mut self.table, x);
-        program::filled(load::load_bucket(image, map, table));
-        program::bytes(&self.table);
+        self.table.lent = x;
+        let answer = load::load_bucket(self.image.part(), self.map.part(), self.table.part_mut());
+        program::filled(answer);
+        program::bytes(&self.table.all);
     }
 }
 
