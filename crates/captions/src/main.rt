@@ -34,8 +34,8 @@ impl Desk {
         let place = usize::from(x);
         let n = place + usize::from(high) * 65_536;
         match letter {
-            b'C' => program::set(&mut self.caption.all, place, high),
-            b'P' => program::set(&mut self.pattern.all, place, high),
+            b'C' => self.caption.set(place, high),
+            b'P' => self.pattern.set(place, high),
             b'F' => fill(&mut self.caption.all, high),
             b'G' => fill(&mut self.pattern.all, high),
             b'B' => self.caption.all = self.output.all,

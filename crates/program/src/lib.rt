@@ -38,15 +38,26 @@ impl<T: Copy, const N: usize> Buffer<T, N> {
             lent: 0,
         }
     }
+
+    // Sets one element, where there is one.
+    pub fn set(&mut self, i: usize, x: T)
+        ensures { (self.new.all ≡ slice_set self.old.all i x) × (self.new.lent ≡ self.old.lent) }
+    {
+        if i < N {
+            self.all[i] = x;
+        }
+    }
 }
 
 impl<T, const N: usize> Buffer<T, N> {
+    // The part that is lent.
     pub fn part(&self) -> &[T]
         ensures { result.now ≡ take (min self.now.lent N) self.now.all }
     {
         start(&self.all, self.lent)
     }
 
+    // The same, to write in. What becomes of the buffer is not said: no proof is made of a `Lends` clause for a part of a field.
     pub fn part_mut(&mut self) -> &mut [T]
         ensures { result.now ≡ take (min self.old.lent N) self.old.all }
     {
@@ -60,15 +71,6 @@ pub fn start<T>(all: &[T], most: usize) -> &[T]
     ensures { result.now ≡ take (min most (length all.now)) all.now }
 {
     &all[..most.min(all.len())]
-}
-
-// Sets one byte, where there is one.
-pub fn set(b: &mut [u8], i: usize, x: u8)
-    ensures { b.new ≡ slice_set b.old i x }
-{
-    if i < b.len() {
-        b[i] = x;
-    }
 }
 
 pub fn text(t: &[u8])

@@ -34,9 +34,9 @@ impl Desk {
         let x = usize::from(a);
         let y = usize::from(b);
         match letter {
-            b'T' => program::set(&mut self.table.all, x, b),
-            b'I' => program::set(&mut self.image.all, x, b),
-            b'M' => program::set(&mut self.map.all, x, b),
+            b'T' => self.table.set(x, b),
+            b'I' => self.image.set(x, b),
+            b'M' => self.map.set(x, b),
             b'i' => self.image.lent = x,
             b'm' => self.map.lent = x,
             b'n' => self.make(x, y),
