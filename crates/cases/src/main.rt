@@ -110,16 +110,11 @@ fn case_12() {
 fn make(what: &str) {
     let mut output = [0xEE; 34];
     program::about(what);
-    program::filled(map::make(
-        2,
-        Bytes { count: 4 },
-        b"\x01\x00\x02\x00\x03\x00",
-        &mut output,
-    ));
+    program::filled(map::make(2, Bytes { count: 4 }, program::CASE_12, &mut output));
     program::bytes(&output);
 }
 
 fn ask(what: &str, map: &[u8]) {
     program::about(what);
-    program::asked(load::ask_page(b"\x01\x00\x02\x00\x03\x00", map, 0));
+    program::asked(load::ask_page(program::CASE_12, map, 0));
 }

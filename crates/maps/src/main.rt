@@ -14,12 +14,7 @@ fn main() {
 fn case_12() {
     let mut output = [0xEE; 40];
     program::about("case 12");
-    program::filled(map::make(
-        2,
-        Bytes { count: 4 },
-        b"\x01\x00\x02\x00\x03\x00",
-        &mut output,
-    ));
+    program::filled(map::make(2, Bytes { count: 4 }, program::CASE_12, &mut output));
     program::bytes(&output);
 }
 

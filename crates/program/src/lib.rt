@@ -13,6 +13,9 @@ const STDIN: i32 = 0;
 
 const STDOUT: i32 = 1;
 
+// The bucket of the scope's case 12.
+pub const CASE_12: &[u8] = b"\x01\x00\x02\x00\x03\x00";
+
 // What stands on standard input, or as much of it as there is room for.
 pub fn input(room: &mut [u8]) -> &[u8]
     ensures { length result.now ≤ length room.old }
