@@ -2,6 +2,7 @@
 // The file `stdout` beside this has what they should be, from a program with tables of logarithms.
 #![tactic(auto)]
 
+use program::Buffer;
 use units::Bytes;
 
 fn main() {
@@ -12,71 +13,54 @@ fn main() {
 
 fn case_12() {
     let mut output = [0xEE; 40];
-    program::text(b"case 12: ");
-    program::filled(map::make(
-        2,
-        Bytes { count: 4 },
-        b"\x01\x00\x02\x00\x03\x00",
-        &mut output,
-    ));
-    held(&output);
+    program::about("case 12");
+    program::filled(map::make(2, Bytes { count: 4 }, program::CASE_12, &mut output));
+    program::bytes(&output);
 }
 
 fn refusals() {
-    make(b"n 0, page 3: ", 0, 3, 8_193, 0);
-    make(b"n 5, page 2: ", 5, 2, 8_193, 0);
-    make(b"page 0: ", 1, 0, 8_193, 0);
-    make(b"page 3: ", 1, 3, 8_193, 0);
-    make(b"page 65538: ", 1, 65_538, 8_193, 0);
-    make(b"8193 bytes in pages of 2: ", 1, 2, 8_193, 0);
-    make(
-        b"8192 bytes in pages of 2, short by one: ",
-        4,
-        2,
-        8_192,
-        45_073,
-    );
+    for (what, n, page, bytes, room) in [
+        ("n 0, page 3", 0, 3, 8_193, 0),
+        ("n 5, page 2", 5, 2, 8_193, 0),
+        ("page 0", 1, 0, 8_193, 0),
+        ("page 3", 1, 3, 8_193, 0),
+        ("page 65538", 1, 65_538, 8_193, 0),
+        ("8193 bytes in pages of 2", 1, 2, 8_193, 0),
+        (
+            "8192 bytes in pages of 2, short by one",
+            4,
+            2,
+            8_192,
+            45_073,
+        ),
+    ] {
+        make(what, n, page, bytes, room);
+    }
 }
 
 fn edges() {
-    make(b"8192 bytes in pages of 2: ", 4, 2, 8_192, 45_074);
-    make(b"65536 bytes in a page of 65536: ", 3, 65_536, 65_536, 27);
-    make(
-        b"65537 bytes in pages of 65536: ",
-        3,
-        65_536,
-        65_537,
-        45_074,
-    );
-    make(b"no bytes: ", 4, 65_536, 0, 18);
+    for (what, n, page, bytes, room) in [
+        ("8192 bytes in pages of 2", 4, 2, 8_192, 45_074),
+        ("65536 bytes in a page of 65536", 3, 65_536, 65_536, 27),
+        ("65537 bytes in pages of 65536", 3, 65_536, 65_537, 45_074),
+        ("no bytes", 4, 65_536, 0, 18),
+    ] {
+        make(what, n, page, bytes, room);
+    }
 }
 
 // A map of so many bytes of 5A hex, for an output of so much room.
-fn make(what: &[u8], n: usize, page: usize, bytes: usize, room: usize) {
-    let bucket = [0x5A; 65_537];
-    let mut output = [0xEE; 45_074];
-    program::text(what);
-    make_of(n, page, &bucket, bytes, &mut output, room);
-    held(&output);
-}
-
-fn make_of(n: usize, page: usize, bucket: &[u8], bytes: usize, output: &mut [u8], room: usize) {
-    if bytes > bucket.len() {
-        return;
-    }
-    if room > output.len() {
-        return;
-    }
-    program::filled(map::make(
-        n,
-        Bytes { count: page },
-        &bucket[..bytes],
-        &mut output[..room],
-    ));
-}
-
-// The first 40 bytes of an output.
-fn held(output: &[u8]) {
-    let most = program::within(40, output.len());
-    program::bytes(&output[..most]);
+fn make(what: &str, n: usize, page: usize, bytes: usize, room: usize) {
+    let bucket = Buffer {
+        all: [0x5A; 65_537],
+        lent: bytes,
+    };
+    let mut output = Buffer {
+        all: [0xEE; 45_074],
+        lent: room,
+    };
+    let page = Bytes { count: page };
+    program::about(what);
+    program::filled(map::make(n, page, bucket.part(), output.part_mut()));
+    program::bytes(program::start(&output.all, 40));
 }

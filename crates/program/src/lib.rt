@@ -1,23 +1,79 @@
-// What the programs share: a part of a buffer that is lent, and what they print. A function that prints answers nothing, and its contract says so: what was
-// printed is compared when the program is run.
+// What the programs share: their input and output, what they print of an answer, and a buffer of which a part is lent. A function that prints answers
+// nothing, and its contract says so: what was printed is compared when the program is run.
 #![tactic(auto)]
 
-ghost use Rattle.std.specs.Prelude.{◌≡◌, ◌≤◌, min};
+ghost use Rattle.std.specs.Prelude.{◌≡◌, ◌≤◌, length, min, replicate, slice_set, take};
 
 use signature::{Answer, Signature};
+use std::fmt::{self, Display, Write};
 use units::{Filled, Listed, Refusal, Verdict};
 
-// Standard output's number.
+// The numbers of standard input and output.
+const STDIN: i32 = 0;
+
 const STDOUT: i32 = 1;
 
-// As much as a buffer has.
-pub fn within(x: usize, most: usize) -> usize
-    ensures { (result ≡ min x most) × (result ≤ most) }
+// The bucket of the scope's case 12.
+pub const CASE_12: &[u8] = b"\x01\x00\x02\x00\x03\x00";
+
+// What stands on standard input, or as much of it as there is room for.
+pub fn input(room: &mut [u8]) -> &[u8]
+    ensures { length result.now ≤ length room.old }
 {
-    if x > most {
-        return most;
+    let got = io::read_full(STDIN, room);
+    &room[..got]
+}
+
+// A buffer, and how much of it is lent: all of it where it is shorter.
+#[derive(Drop)]
+pub struct Buffer<T, const N: usize> {
+    pub all: [T; N],
+    pub lent: usize,
+}
+
+impl<T: Copy, const N: usize> Buffer<T, N> {
+    // Each element is x, and nothing is lent.
+    pub fn new(x: T) -> Buffer<T, N>
+        ensures { (result.all ≡ replicate N x) × (result.lent ≡ 0) }
+    {
+        Buffer {
+            all: [x; N],
+            lent: 0,
+        }
     }
-    x
+
+    // Sets one element, where there is one.
+    pub fn set(&mut self, i: usize, x: T)
+        ensures { (self.new.all ≡ slice_set self.old.all i x) × (self.new.lent ≡ self.old.lent) }
+    {
+        if i < N {
+            self.all[i] = x;
+        }
+    }
+}
+
+impl<T, const N: usize> Buffer<T, N> {
+    // The part that is lent.
+    pub fn part(&self) -> &[T]
+        ensures { result.now ≡ take (min self.now.lent N) self.now.all }
+    {
+        start(&self.all, self.lent)
+    }
+
+    // The same, to write in. What becomes of the buffer is not said: no proof is made of a `Lends` clause for a part of a field.
+    pub fn part_mut(&mut self) -> &mut [T]
+        ensures { result.now ≡ take (min self.old.lent N) self.old.all }
+    {
+        let most = self.lent.min(N);
+        &mut self.all[..most]
+    }
+}
+
+// The first elements, at most so many.
+pub fn start<T>(all: &[T], most: usize) -> &[T]
+    ensures { result.now ≡ take (min most (length all.now)) all.now }
+{
+    &all[..most.min(all.len())]
 }
 
 pub fn text(t: &[u8])
@@ -26,75 +82,77 @@ pub fn text(t: &[u8])
     io::write_all(STDOUT, t);
 }
 
-fn decimal(x: usize)
+// Standard output, as a writer that never fails: what a write leaves out is missed when the output is compared.
+#[derive(Clone, Copy)]
+struct Output;
+
+impl Write for Output {
+    fn write_str(&mut self, s: &str) -> fmt::Result {
+        text(s.as_bytes());
+        Ok(())
+    }
+}
+
+pub fn print<D: Display + Drop>(what: D)
     ensures { result ≡ tt }
 {
-    io::print_decimal(STDOUT, x as u64);
+    let _ = Output.write(what);
+}
+
+pub fn line<D: Display + Drop>(what: D)
+    ensures { result ≡ tt }
+{
+    let _ = Output.writeln(what);
 }
 
 // What a line is about.
-pub fn about(what: &[u8])
+pub fn about(what: &str)
     ensures { result ≡ tt }
 {
-    text(what);
-    text(b": ");
-}
-
-// A line of a word and a number.
-pub fn line(word: &[u8], x: usize)
-    ensures { result ≡ tt }
-{
-    text(word);
-    decimal(x);
-    text(b"\n");
+    print(format_args!("{what}: "));
 }
 
 // A line of bytes, two hex digits each.
 pub fn bytes(b: &[u8])
     ensures { result ≡ tt }
 {
-    let mut i: usize = 0;
-    while i < b.len() {
-        io::print_hex(STDOUT, b[i] as u64, 2);
-        i += 1;
+    for x in b {
+        print(format_args!("{x:02x}"));
     }
-    text(b"\n");
+    line("");
 }
 
 // A line for each number.
 pub fn numbers(l: &[usize])
     ensures { result ≡ tt }
 {
-    let mut i: usize = 0;
-    while i < l.len() {
-        line(b"", l[i]);
-        i += 1;
+    for x in l {
+        line(x);
     }
 }
 
 pub fn refused(r: Refusal)
     ensures { result ≡ tt }
 {
-    text(b"refused ");
-    decimal(r.number as usize);
-    line(b" ", r.value);
+    let Refusal { number, value } = r;
+    line(format_args!("refused {number} {value}"));
 }
 
 pub fn filled(a: Filled)
     ensures { result ≡ tt }
 {
     match a {
-        Filled::Written(b) => line(b"bytes ", b.count),
+        Filled::Written(b) => line(format_args!("bytes {}", b.count)),
         Filled::Refused(r) => refused(r),
     }
 }
 
 // The word says what was counted.
-pub fn listed(word: &[u8], a: Listed)
+pub fn listed(word: &str, a: Listed)
     ensures { result ≡ tt }
 {
     match a {
-        Listed::Numbers(count) => line(word, count),
+        Listed::Numbers(count) => line(format_args!("{word} {count}")),
         Listed::Refused(r) => refused(r),
     }
 }
@@ -104,13 +162,13 @@ pub fn asked(v: Verdict)
     ensures { result ≡ tt }
 {
     match v {
-        Verdict::Allowed => text(b"loaded\n"),
+        Verdict::Allowed => line("loaded"),
         Verdict::Refused(r) => refused(r),
     }
 }
 
 // Signs, and prints the answer.
-pub fn sign(what: &[u8], n: usize, object: &[u8])
+pub fn sign(what: &str, n: usize, object: &[u8])
     ensures { result ≡ tt }
 {
     about(what);
@@ -128,17 +186,6 @@ pub fn signed(a: Answer)
 
 // n and four components.
 fn components(s: Signature) {
-    text(b"n ");
-    decimal(s.n);
-    text(b",");
-    component(s.s1);
-    component(s.s2);
-    component(s.s3);
-    component(s.s4);
-    text(b"\n");
-}
-
-fn component(s: u16) {
-    text(b" ");
-    io::print_hex(STDOUT, s as u64, 4);
+    let Signature { n, s1, s2, s3, s4 } = s;
+    line(format_args!("n {n}, {s1:04x} {s2:04x} {s3:04x} {s4:04x}"));
 }

@@ -2,147 +2,108 @@
 // the answer and what the buffers hold then, those parts too that were not lent. Of a buffer that is shorter than asked for, all is lent.
 #![tactic(auto)]
 
+use program::Buffer;
 use store::{Answer, Place};
 use units::Bytes;
 
-// Standard input's number.
-const STDIN: i32 = 0;
-
-// How much of the image and of the map is lent.
-#[derive(Clone, Copy)]
-struct Lent {
-    image: usize,
-    map: usize,
+// The buffers of the backup.
+#[derive(Drop)]
+struct Desk {
+    table: Buffer<u8, 12>,
+    image: Buffer<u8, 12>,
+    map: Buffer<u8, 96>,
+    list: Buffer<usize, 8>,
 }
 
 fn main() {
-    let mut script = [0u8; 6144];
-    let got = io::read_full(STDIN, &mut script);
-    let mut table = [0u8; 12];
-    let mut image = [0u8; 12];
-    let mut map = [0u8; 96];
-    let mut list = [99usize; 8];
-    run(&script[..got], &mut table, &mut image, &mut map, &mut list);
-}
-
-fn run(script: &[u8], table: &mut [u8], image: &mut [u8], map: &mut [u8], list: &mut [usize]) {
-    let mut lent = Lent { image: 0, map: 0 };
-    let mut at: usize = 0;
-    while script.len() - at > 2 {
-        let a = script[at + 1];
-        let b = script[at + 2];
-        lent = command(script[at], a, b, lent, table, image, map, list);
-        at += 3;
+    let mut room = [0u8; 6144];
+    let (commands, _) = program::input(&mut room).as_chunks::<3>();
+    let mut desk = Desk {
+        table: Buffer::new(0),
+        image: Buffer::new(0),
+        map: Buffer::new(0),
+        list: Buffer::new(99),
+    };
+    for [letter, a, b] in commands {
+        desk.command(*letter, *a, *b);
     }
 }
 
-fn command(
-    letter: u8,
-    a: u8,
-    b: u8,
-    lent: Lent,
-    table: &mut [u8],
-    image: &mut [u8],
-    map: &mut [u8],
-    list: &mut [usize],
-) -> Lent {
-    let x = a as usize;
-    let y = b as usize;
-    match letter {
-        b'T' => set(table, x, b),
-        b'I' => set(image, x, b),
-        b'M' => set(map, x, b),
-        b'i' => {
-            return Lent {
-                image: x,
-                map: lent.map,
-            };
+impl Desk {
+    fn command(&mut self, letter: u8, a: u8, b: u8) {
+        let x = usize::from(a);
+        let y = usize::from(b);
+        match letter {
+            b'T' => self.table.set(x, b),
+            b'I' => self.image.set(x, b),
+            b'M' => self.map.set(x, b),
+            b'i' => self.image.lent = x,
+            b'm' => self.map.lent = x,
+            b'n' => self.make(x, y),
+            b's' => self.store(x, y),
+            b't' => self.step(x, y),
+            b'p' => self.load_page(x),
+            b'b' => self.load_bucket(x),
+            _ => {}
         }
-        b'm' => {
-            return Lent {
-                image: lent.image,
-                map: x,
-            };
-        }
-        b'n' => make(x, y, lent, image, map),
-        b's' => store(x, y, lent, table, image, map, list),
-        b't' => step(x, y, lent, table, image, map),
-        b'p' => load_page(x, lent, image, map),
-        b'b' => load_bucket(x, lent, image, map, table),
-        _ => {}
     }
-    lent
-}
 
-fn set(b: &mut [u8], i: usize, x: u8) {
-    if i < b.len() {
-        b[i] = x;
+    // The map of the image, with n components and pages of so many bytes.
+    fn make(&mut self, n: usize, page: usize) {
+        let page = Bytes { count: page };
+        program::filled(map::make(n, page, self.image.part(), self.map.part_mut()));
+        program::bytes(&self.map.all);
     }
-}
 
-// The map of the image, with n components and pages of so many bytes.
-fn make(n: usize, page: usize, lent: Lent, image: &[u8], map: &mut [u8]) {
-    let i = program::within(lent.image, image.len());
-    let m = program::within(lent.map, map.len());
-    program::filled(map::make(n, Bytes { count: page }, &image[..i], &mut map[..m]));
-    program::bytes(map);
-}
+    fn store(&mut self, x: usize, y: usize) {
+        self.table.lent = x;
+        self.list.lent = y;
+        let answer = store::store(
+            self.table.part(),
+            self.image.part_mut(),
+            self.map.part_mut(),
+            self.list.part_mut(),
+        );
+        program::listed("pages", answer);
+        program::bytes(&self.image.all);
+        program::bytes(&self.map.all);
+        program::numbers(&self.list.all);
+    }
 
-fn store(
-    x: usize,
-    y: usize,
-    lent: Lent,
-    table: &[u8],
-    image: &mut [u8],
-    map: &mut [u8],
-    list: &mut [usize],
-) {
-    let t = program::within(x, table.len());
-    let i = program::within(lent.image, image.len());
-    let m = program::within(lent.map, map.len());
-    let l = program::within(y, list.len());
-    program::listed(
-        b"pages ",
-        store::store(&table[..t], &mut image[..i], &mut map[..m], &mut list[..l]),
-    );
-    program::bytes(image);
-    program::bytes(map);
-    program::numbers(list);
-}
+    fn step(&mut self, page: usize, y: usize) {
+        self.table.lent = y;
+        let place = Place { page };
+        let step = place.step(
+            self.table.part(),
+            self.image.part_mut(),
+            self.map.part_mut(),
+        );
+        stepped(step.answer);
+        program::line(format_args!("next {}", step.next.page));
+        program::bytes(&self.image.all);
+        program::bytes(&self.map.all);
+    }
 
-fn step(page: usize, y: usize, lent: Lent, table: &[u8], image: &mut [u8], map: &mut [u8]) {
-    let t = program::within(y, table.len());
-    let i = program::within(lent.image, image.len());
-    let m = program::within(lent.map, map.len());
-    let place = Place { page };
-    let step = place.step(&table[..t], &mut image[..i], &mut map[..m]);
-    let answer = step.answer;
-    stepped(answer);
-    program::line(b"next ", step.next.page);
-    program::bytes(image);
-    program::bytes(map);
-}
+    fn load_page(&self, k: usize) {
+        let image = self.image.part();
+        let map = self.map.part();
+        program::asked(load::ask_page(image, map, k));
+        program::bytes(load::load_page(image, map, k));
+    }
 
-fn load_page(k: usize, lent: Lent, image: &[u8], map: &[u8]) {
-    let i = program::within(lent.image, image.len());
-    let m = program::within(lent.map, map.len());
-    program::asked(load::ask_page(&image[..i], &map[..m], k));
-    program::bytes(load::load_page(&image[..i], &map[..m], k));
-}
-
-fn load_bucket(x: usize, lent: Lent, image: &[u8], map: &[u8], table: &mut [u8]) {
-    let t = program::within(x, table.len());
-    let i = program::within(lent.image, image.len());
-    let m = program::within(lent.map, map.len());
-    program::filled(load::load_bucket(&image[..i], &map[..m], &mut table[..t]));
-    program::bytes(table);
+    fn load_bucket(&mut self, x: usize) {
+        self.table.lent = x;
+        let answer = load::load_bucket(self.image.part(), self.map.part(), self.table.part_mut());
+        program::filled(answer);
+        program::bytes(&self.table.all);
+    }
 }
 
 fn stepped(a: Answer) {
     match a {
-        Answer::Kept(k) => program::line(b"kept ", k),
-        Answer::Written(k) => program::line(b"written ", k),
-        Answer::Finished => program::text(b"finished\n"),
+        Answer::Kept(k) => program::line(format_args!("kept {k}")),
+        Answer::Written(k) => program::line(format_args!("written {k}")),
+        Answer::Finished => program::line("finished"),
         Answer::Refused(r) => program::refused(r),
     }
 }

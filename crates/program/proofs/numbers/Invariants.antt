@@ -1,7 +1,0 @@
--- `program::numbers` ends: each turn leaves one fewer.
--- Assumes nothing.
-use Rattle.std.proofs.Common.{◌-◌, length}
-use Rattle.program.proofs.numbers.Given as goal
-
-abbrev pub decreases-loop-i : goal.decreases-loop-i
-decreases-loop-i l = length l.l - l.i
