@@ -4,7 +4,6 @@
 #![tactic(auto)]
 
 use program::Buffer;
-use units::Listed;
 
 #[derive(Drop)]
 struct Desk {
@@ -65,9 +64,10 @@ impl Desk {
     fn search(&mut self) {
         let caption = self.caption.part();
         let answer = caption::search(caption, self.pattern.part(), self.list.part_mut());
-        program::listed("places", answer);
+        program::listed(b"places ", answer);
         program::numbers(part(&self.list.all, 0, 6));
-        program::numbers(part(&self.list.all, count(answer).saturating_sub(4), 6));
+        let count = answer.unwrap_or(0);
+        program::numbers(part(&self.list.all, count.saturating_sub(4), 6));
     }
 }
 
@@ -83,13 +83,6 @@ fn fill(b: &mut [u8], first: u8) {
 fn ends(output: &[u8], written: usize) {
     program::bytes(part(output, 0, 24));
     program::bytes(part(output, written.saturating_sub(20), 24));
-}
-
-fn count(a: Listed) -> usize {
-    match a {
-        Listed::Numbers(count) => count,
-        Listed::Refused(_) => 0,
-    }
 }
 
 // At most so many, from a place on.

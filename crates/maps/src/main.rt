@@ -13,7 +13,7 @@ fn main() {
 
 fn case_12() {
     let mut output = [0xEE; 40];
-    program::about("case 12");
+    program::about(b"case 12");
     program::filled(map::make(2, Bytes { count: 4 }, program::CASE_12, &mut output));
     program::bytes(&output);
 }
@@ -60,7 +60,7 @@ fn make(what: &str, n: usize, page: usize, bytes: usize, room: usize) {
         lent: room,
     };
     let page = Bytes { count: page };
-    program::about(what);
+    program::about(what.as_bytes());
     program::filled(map::make(n, page, bucket.part(), output.part_mut()));
     program::bytes(program::start(&output.all, 40));
 }

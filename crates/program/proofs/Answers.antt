@@ -1,11 +1,16 @@
 -- No second answer meets the contract of the functions of `program` that answer a buffer or a part of it, or set an element of it.
 -- Assumes nothing.
 use mathlib.Core.Path.{sym, ◌∙◌, ◌≡◌}
+use Rattle.units.specs.Answers.{OneAnswer}
+use Rattle.program.proofs.within.Reads as Within
 use Rattle.program.proofs.Buffer.new.Reads as New
 use Rattle.program.proofs.Buffer.part.Reads as Part
 use Rattle.program.proofs.Buffer.part_mut.Reads as PartMut
 use Rattle.program.proofs.start.Reads as Start
 use Rattle.program.proofs.Buffer.set.Reads as Set
+
+pub within_one_answer : OneAnswer Within.Post
+within_one_answer κs a r s x y p q = p.0 ∙ sym q.0
 
 -- of both fields
 pub new_one_answer : (T : _) (N : _) (L : _) (F : _) (C : _) (G : _) (D : _) (κs : _) (a : _) (r s : _) (x y : _) → New.Post T N L F C G D κs a r x → New.Post T N L F C G D κs a s y → (r.all ≡ s.all) × (r.lent ≡ s.lent)

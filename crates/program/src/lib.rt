@@ -4,9 +4,9 @@
 
 ghost use Rattle.std.specs.Prelude.{◌≡◌, ◌≤◌, length, min, replicate, slice_set, take};
 
-use signature::{Answer, Signature};
+use signature::Signature;
 use std::fmt::{self, Display, Write};
-use units::{Filled, Listed, Refusal, Verdict};
+use units::{Bytes, Refusal};
 
 // The numbers of standard input and output.
 const STDIN: i32 = 0;
@@ -64,16 +64,23 @@ impl<T, const N: usize> Buffer<T, N> {
     pub fn part_mut(&mut self) -> &mut [T]
         ensures { result.now ≡ take (min self.old.lent N) self.old.all }
     {
-        let most = self.lent.min(N);
+        let most = within(self.lent, N);
         &mut self.all[..most]
     }
+}
+
+// As much as a buffer has.
+pub fn within(x: usize, most: usize) -> usize
+    ensures { (result ≡ min x most) × (result ≤ most) }
+{
+    x.min(most)
 }
 
 // The first elements, at most so many.
 pub fn start<T>(all: &[T], most: usize) -> &[T]
     ensures { result.now ≡ take (min most (length all.now)) all.now }
 {
-    &all[..most.min(all.len())]
+    &all[..within(most, all.len())]
 }
 
 pub fn text(t: &[u8])
@@ -99,17 +106,26 @@ pub fn print<D: Display + Drop>(what: D)
     let _ = Output.write(what);
 }
 
-pub fn line<D: Display + Drop>(what: D)
+pub fn print_line<D: Display + Drop>(what: D)
     ensures { result ≡ tt }
 {
     let _ = Output.writeln(what);
 }
 
 // What a line is about.
-pub fn about(what: &str)
+pub fn about(what: &[u8])
     ensures { result ≡ tt }
 {
-    print(format_args!("{what}: "));
+    text(what);
+    text(b": ");
+}
+
+// A line of a word and a number.
+pub fn line(word: &[u8], x: usize)
+    ensures { result ≡ tt }
+{
+    text(word);
+    print_line(x);
 }
 
 // A line of bytes, two hex digits each.
@@ -119,7 +135,7 @@ pub fn bytes(b: &[u8])
     for x in b {
         print(format_args!("{x:02x}"));
     }
-    line("");
+    print_line("");
 }
 
 // A line for each number.
@@ -127,65 +143,58 @@ pub fn numbers(l: &[usize])
     ensures { result ≡ tt }
 {
     for x in l {
-        line(x);
+        print_line(x);
     }
 }
 
 pub fn refused(r: Refusal)
     ensures { result ≡ tt }
 {
-    let Refusal { number, value } = r;
-    line(format_args!("refused {number} {value}"));
+    print_line(r);
 }
 
-pub fn filled(a: Filled)
+pub fn filled(a: Result<Bytes, Refusal>)
     ensures { result ≡ tt }
 {
-    match a {
-        Filled::Written(b) => line(format_args!("bytes {}", b.count)),
-        Filled::Refused(r) => refused(r),
-    }
+    listed(b"bytes ", a.map(|b| b.count));
 }
 
 // The word says what was counted.
-pub fn listed(word: &str, a: Listed)
+pub fn listed(word: &[u8], a: Result<usize, Refusal>)
     ensures { result ≡ tt }
 {
     match a {
-        Listed::Numbers(count) => line(format_args!("{word} {count}")),
-        Listed::Refused(r) => refused(r),
+        Ok(count) => line(word, count),
+        Err(r) => refused(r),
     }
 }
 
 // What a load of a page would say.
-pub fn asked(v: Verdict)
+pub fn asked(v: Result<(), Refusal>)
     ensures { result ≡ tt }
 {
     match v {
-        Verdict::Allowed => line("loaded"),
-        Verdict::Refused(r) => refused(r),
+        Ok(()) => print_line("loaded"),
+        Err(r) => refused(r),
     }
 }
 
 // Signs, and prints the answer.
-pub fn sign(what: &str, n: usize, object: &[u8])
+pub fn sign(what: &[u8], n: usize, object: &[u8])
     ensures { result ≡ tt }
 {
     about(what);
     signed(signature::sign(n, object));
 }
 
-pub fn signed(a: Answer)
+// n and four components.
+pub fn signed(a: Result<Signature, Refusal>)
     ensures { result ≡ tt }
 {
     match a {
-        Answer::Signed(s) => components(s),
-        Answer::Refused(r) => refused(r),
+        Ok(Signature { n, s1, s2, s3, s4 }) => {
+            print_line(format_args!("n {n}, {s1:04x} {s2:04x} {s3:04x} {s4:04x}"));
+        }
+        Err(r) => refused(r),
     }
-}
-
-// n and four components.
-fn components(s: Signature) {
-    let Signature { n, s1, s2, s3, s4 } = s;
-    line(format_args!("n {n}, {s1:04x} {s2:04x} {s3:04x} {s4:04x}"));
 }

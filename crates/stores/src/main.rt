@@ -4,7 +4,7 @@
 
 use program::Buffer;
 use store::{Answer, Place};
-use units::Bytes;
+use units::{Bytes, Refusal};
 
 // The buffers of the backup.
 #[derive(Drop)]
@@ -64,7 +64,7 @@ impl Desk {
             self.map.part_mut(),
             self.list.part_mut(),
         );
-        program::listed("pages", answer);
+        program::listed(b"pages ", answer);
         program::bytes(&self.image.all);
         program::bytes(&self.map.all);
         program::numbers(&self.list.all);
@@ -79,7 +79,7 @@ impl Desk {
             self.map.part_mut(),
         );
         stepped(step.answer);
-        program::line(format_args!("next {}", step.next.page));
+        program::line(b"next ", step.next.page);
         program::bytes(&self.image.all);
         program::bytes(&self.map.all);
     }
@@ -99,11 +99,11 @@ impl Desk {
     }
 }
 
-fn stepped(a: Answer) {
+fn stepped(a: Result<Answer, Refusal>) {
     match a {
-        Answer::Kept(k) => program::line(format_args!("kept {k}")),
-        Answer::Written(k) => program::line(format_args!("written {k}")),
-        Answer::Finished => program::line("finished"),
-        Answer::Refused(r) => program::refused(r),
+        Ok(Answer::Kept(k)) => program::line(b"kept ", k),
+        Ok(Answer::Written(k)) => program::line(b"written ", k),
+        Ok(Answer::Finished) => program::print_line("finished"),
+        Err(r) => program::refused(r),
     }
 }

@@ -2,7 +2,7 @@
 // the constants of the PAR2 specification, and products taken by logarithms.
 #![tactic(auto)]
 
-use program::line;
+use program::print_line;
 use std::fmt::Display;
 use units::{Bytes, Refusal, Symbols};
 
@@ -15,7 +15,7 @@ fn main() {
 }
 
 fn sizes() {
-    line("sizes");
+    print_line("sizes");
     for n in [0, 1, 4, 5] {
         allowed(format_args!("n {n}"), units::n_allowed(n));
     }
@@ -56,30 +56,31 @@ fn counted(what: &str, bytes: usize, symbols: Symbols, yes: bool) {
 
 fn allowed<D: Display + Drop>(what: D, yes: bool) {
     let word = if yes { "allowed" } else { "not allowed" };
-    line(format_args!("{what}: {word}"));
+    print_line(format_args!("{what}: {word}"));
 }
 
 fn refusals() {
-    line("refusals");
-    for (name, number) in [
-        ("SIZE", Refusal::SIZE),
-        ("PAGE", Refusal::PAGE),
-        ("LONG", Refusal::LONG),
-        ("ODD", Refusal::ODD),
-        ("MAP", Refusal::MAP),
-        ("MATCH", Refusal::MATCH),
-        ("ROOM", Refusal::ROOM),
-        ("EMPTY", Refusal::EMPTY),
-        ("PAGENO", Refusal::PAGENO),
-        ("DAMAGED", Refusal::DAMAGED),
-        ("THIN", Refusal::THIN),
+    print_line("refusals");
+    for (name, refusal) in [
+        ("SIZE", Refusal::Size),
+        ("PAGE", Refusal::Page),
+        ("LONG", Refusal::Long),
+        ("ODD", Refusal::Odd),
+        ("MAP", Refusal::Map(0)),
+        ("MATCH", Refusal::Match),
+        ("ROOM", Refusal::Room(0)),
+        ("EMPTY", Refusal::Empty),
+        ("PAGENO", Refusal::PageNo),
+        ("DAMAGED", Refusal::Damaged(0)),
+        ("THIN", Refusal::Thin),
     ] {
-        line(format_args!("{number} {name}"));
+        let number = refusal.number();
+        print_line(format_args!("{number} {name}"));
     }
 }
 
 fn products() {
-    line("products");
+    print_line("products");
     for (a, b) in [
         (0x0002, 0x8000),
         (0x0002, 0x4000),
@@ -92,13 +93,13 @@ fn products() {
         (0x8805, 0x0002),
     ] {
         let c = field::product(a, b);
-        line(format_args!("{a:04x} * {b:04x} = {c:04x}"));
+        print_line(format_args!("{a:04x} * {b:04x} = {c:04x}"));
     }
 }
 
 // The exponents from 1 to 22 are those of the first constants that the PAR2 specification lists.
 fn powers() {
-    line("powers");
+    print_line("powers");
     for (component, position) in [
         (1, 1),
         (1, 2),
@@ -119,13 +120,13 @@ fn powers() {
     ] {
         let e = units::exponent_of(component, Symbols { count: position });
         let power = field::times_power(1, e);
-        line(format_args!("alpha^({component} * {position}) = {power:04x}"));
+        print_line(format_args!("alpha^({component} * {position}) = {power:04x}"));
     }
 }
 
 fn order() {
     let power = return_of_alpha();
-    line(format_args!("alpha is 1 again at its power {power}"));
+    print_line(format_args!("alpha is 1 again at its power {power}"));
 }
 
 // The first power of α above 0 that is 1; 70,000 where none up to there is.
