@@ -54,16 +54,21 @@ pub divided_start : (R : Relation) (object : List ℕ) {last words : List ℕ} {
 divided_start R object cut e stands = record { stands = λ j holds. stands j ∙ ap (λ (bytes : List ℕ). signature GF16 2 bytes j) cut ∙ ap (λ (k : ℕ). signature GF16 2 (drop k object) j) e }
 
 module _ (R : Relation) (object : List ℕ) (octets : Octets object) where
-  pub divided_next : (at : ℕ) {from word : ℕ} {words after : List ℕ} → from ≡ at + 8 → at + 8 ≤ length object → word ≡ low_first 8 object at
-      → ((j : ℕ) → Holds R j → of_words j after ≡ of_words j (word ∷ words)) → Divided R object words from → Divided R object after at
+  -- a word below a row that has room for it
+  pub divided_below : (at : ℕ) {from word : ℕ} {words : List ℕ} → from ≡ at + 8 → at + 8 ≤ length object → word ≡ low_first 8 object at → Divided R object words from
+      → Divided R object (word ∷ words) at
   unfolding of_words
-  divided_next at further inside here turned above =
+  divided_below at further inside here above =
       record {
         stands = λ j holds.
-            turned j holds
-            ∙ ap₂ (λ (x y : ℕ). x ⊕ product GF16 y (power GF16 α (j * 4))) (ap (of_word j) here) (above.stands j holds ∙ ap (λ (k : ℕ). signature GF16 2 (drop k object) j) further)
+            ap₂ (λ (x y : ℕ). x ⊕ product GF16 y (power GF16 α (j * 4))) (ap (of_word j) here) (above.stands j holds ∙ ap (λ (k : ℕ). signature GF16 2 (drop k object) j) further)
             ∙ next_word object octets j at inside;
       }
+
+  -- and where the word that it then has too many is replaced
+  pub divided_next : (at : ℕ) {from word : ℕ} {words after : List ℕ} → from ≡ at + 8 → at + 8 ≤ length object → word ≡ low_first 8 object at
+      → ((j : ℕ) → Holds R j → of_words j after ≡ of_words j (word ∷ words)) → Divided R object words from → Divided R object after at
+  divided_next at further inside here turned above = record { stands = λ j holds. turned j holds ∙ (divided_below at further inside here above).stands j holds }
 
   -- the last of the chunks that are left is taken in
   pub divided_chunk : {chunks : List (List ℕ)} (rest : List (List ℕ)) (last : List ℕ) {word : ℕ} {words after : List ℕ} → chunks ≡ rest ++ (last ∷ []) → Chunks object chunks → word ≡ from_le_bytes w64 last
