@@ -17,7 +17,7 @@ use Rattle.components.specs.Components.{total, component, signature}
 use Rattle.components.specs.Relations.{Relation, Holds}
 use Rattle.components.specs.Words.{of_word, of_words}
 use Rattle.components.proofs.Division.{last_word, next_word}
-use Rattle.words.proofs.Reading.{Chunks, one_less, chunk_last, Taken, taken_all}
+use Rattle.words.proofs.Reading.{Chunks, one_less, chunk_last}
 
 -- a row that has the components of an object from a place on, those for which the relation holds
 pub record Divided (R : Relation) (object words : List ℕ) (at : ℕ) : Type 0 where
@@ -32,7 +32,7 @@ none_left object j at past = ap (λ (n : ℕ). component GF16 n (symbol 2 (drop 
 
 module _ (object : List ℕ) (octets : Octets object) where
   -- the words from some place on, up to the last or past it
-  words_stand : (words : List ℕ) (at j : ℕ) → length object ≤ at + 8 * length words → ((k : ℕ) → k < length words → get_or words k 0 ≡ low_first 8 object (at + k * 8))
+  pub words_stand : (words : List ℕ) (at j : ℕ) → length object ≤ at + 8 * length words → ((k : ℕ) → k < length words → get_or words k 0 ≡ low_first 8 object (at + k * 8))
       → of_words j words ≡ signature GF16 2 (drop at object) j
   unfolding of_words
   words_stand [] at j short read = sym (none_left object j at (omega (arith, short)))
@@ -46,9 +46,6 @@ module _ (object : List ℕ) (octets : Octets object) where
       ∙ ap (λ (x : ℕ). of_word j (low_first 8 object at) ⊕ x) (zero_product GF16 (power GF16 α (j * 4)))
       ∙ sum_zero _
       ∙ last_word object octets j at (omega arith))
-
-  pub taken_stand : (words : List ℕ) (i : ℕ) → Taken object i words → length object ≤ i * 8 → length object ≤ 8 * length words → (j : ℕ) → of_words j words ≡ signature GF16 2 object j
-  taken_stand words i taken short room j = words_stand words 0 j (omega (arith, room)) (λ k h. taken_all object words i taken short k ∙ ap (low_first 8 object) (omega arith))
 
 pub divided_start : (R : Relation) (object : List ℕ) {last words : List ℕ} {at n : ℕ} → last ≡ drop at object → at ≡ n → ((j : ℕ) → of_words j words ≡ signature GF16 2 last j) → Divided R object words n
 divided_start R object cut e stands = record { stands = λ j holds. stands j ∙ ap (λ (bytes : List ℕ). signature GF16 2 bytes j) cut ∙ ap (λ (k : ℕ). signature GF16 2 (drop k object) j) e }
