@@ -17,7 +17,7 @@ use Rattle.components.specs.Components.{total, component, signature}
 use Rattle.components.specs.Relations.{Relation, Holds}
 use Rattle.components.specs.Words.{of_word, of_words}
 use Rattle.components.proofs.Division.{last_word, next_word}
-use Rattle.words.proofs.Reading.{Chunks, one_less, chunk_last, Taken, taken_all}
+use Rattle.words.proofs.Reading.{Chunks, one_less, chunk_last}
 
 -- a row that has the components of an object from a place on, those for which the relation holds
 pub record Divided (R : Relation) (object words : List ℕ) (at : ℕ) : Type 0 where
@@ -32,7 +32,7 @@ none_left object j at past = ap (λ (n : ℕ). component GF16 n (symbol 2 (drop 
 
 module _ (object : List ℕ) (octets : Octets object) where
   -- the words from some place on, up to the last or past it
-  words_stand : (words : List ℕ) (at j : ℕ) → length object ≤ at + 8 * length words → ((k : ℕ) → k < length words → get_or words k 0 ≡ low_first 8 object (at + k * 8))
+  pub words_stand : (words : List ℕ) (at j : ℕ) → length object ≤ at + 8 * length words → ((k : ℕ) → k < length words → get_or words k 0 ≡ low_first 8 object (at + k * 8))
       → of_words j words ≡ signature GF16 2 (drop at object) j
   unfolding of_words
   words_stand [] at j short read = sym (none_left object j at (omega (arith, short)))
@@ -47,23 +47,25 @@ module _ (object : List ℕ) (octets : Octets object) where
       ∙ sum_zero _
       ∙ last_word object octets j at (omega arith))
 
-  pub taken_stand : (words : List ℕ) (i : ℕ) → Taken object i words → length object ≤ i * 8 → length object ≤ 8 * length words → (j : ℕ) → of_words j words ≡ signature GF16 2 object j
-  taken_stand words i taken short room j = words_stand words 0 j (omega (arith, room)) (λ k h. taken_all object words i taken short k ∙ ap (low_first 8 object) (omega arith))
-
 pub divided_start : (R : Relation) (object : List ℕ) {last words : List ℕ} {at n : ℕ} → last ≡ drop at object → at ≡ n → ((j : ℕ) → of_words j words ≡ signature GF16 2 last j) → Divided R object words n
 divided_start R object cut e stands = record { stands = λ j holds. stands j ∙ ap (λ (bytes : List ℕ). signature GF16 2 bytes j) cut ∙ ap (λ (k : ℕ). signature GF16 2 (drop k object) j) e }
 
 module _ (R : Relation) (object : List ℕ) (octets : Octets object) where
-  pub divided_next : (at : ℕ) {from word : ℕ} {words after : List ℕ} → from ≡ at + 8 → at + 8 ≤ length object → word ≡ low_first 8 object at
-      → ((j : ℕ) → Holds R j → of_words j after ≡ of_words j (word ∷ words)) → Divided R object words from → Divided R object after at
+  -- a word below a row that has room for it
+  pub divided_below : (at : ℕ) {from word : ℕ} {words : List ℕ} → from ≡ at + 8 → at + 8 ≤ length object → word ≡ low_first 8 object at → Divided R object words from
+      → Divided R object (word ∷ words) at
   unfolding of_words
-  divided_next at further inside here turned above =
+  divided_below at further inside here above =
       record {
         stands = λ j holds.
-            turned j holds
-            ∙ ap₂ (λ (x y : ℕ). x ⊕ product GF16 y (power GF16 α (j * 4))) (ap (of_word j) here) (above.stands j holds ∙ ap (λ (k : ℕ). signature GF16 2 (drop k object) j) further)
+            ap₂ (λ (x y : ℕ). x ⊕ product GF16 y (power GF16 α (j * 4))) (ap (of_word j) here) (above.stands j holds ∙ ap (λ (k : ℕ). signature GF16 2 (drop k object) j) further)
             ∙ next_word object octets j at inside;
       }
+
+  -- and where the word that it then has too many is replaced
+  pub divided_next : (at : ℕ) {from word : ℕ} {words after : List ℕ} → from ≡ at + 8 → at + 8 ≤ length object → word ≡ low_first 8 object at
+      → ((j : ℕ) → Holds R j → of_words j after ≡ of_words j (word ∷ words)) → Divided R object words from → Divided R object after at
+  divided_next at further inside here turned above = record { stands = λ j holds. turned j holds ∙ (divided_below at further inside here above).stands j holds }
 
   -- the last of the chunks that are left is taken in
   pub divided_chunk : {chunks : List (List ℕ)} (rest : List (List ℕ)) (last : List ℕ) {word : ℕ} {words after : List ℕ} → chunks ≡ rest ++ (last ∷ []) → Chunks object chunks → word ≡ from_le_bytes w64 last

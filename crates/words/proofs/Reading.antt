@@ -1,14 +1,12 @@
--- Words of an object: eight bytes are a word, low byte first, past the end there are zeros, and so are words read one after the other.
+-- Words of an object: eight bytes are a word, low byte first, and past the end there are zeros.
 -- Assumes nothing.
 use mathlib.Core.Path.{◌≡◌, refl, sym, ap, ap₂, ◌∙◌}
-use mathlib.Core.Logic.{dite}
 use mathlib.Core.List.{List, reverse, reverse-cons, [], ◌∷◌, ◌++◌}
 use Prim.Native.Nat.{ℕ, zero, suc, ◌+◌, ◌*◌, ◌/◌, ◌^◌, ◌%◌, ◌≤◌, ◌<◌}
-use native.Mathlib.Decide.{dec_lt}
 use native.Mathlib.Nat.{lt_of_lt_of_le, pow-le-pow_right}
 use native.Mathlib.Omega.{arith}
-use lib.ListN.{length, get_or, get_or-eq_default, get_or-replicate, replicate, length-replicate, length-take, take, drop, set}
-use lib.Seq.{get_or-take, get_or-drop, get_or-set_same, get_or-set_other, drop-drop}
+use lib.ListN.{length, get_or, get_or-eq_default, length-take, take, drop}
+use lib.Seq.{get_or-take, get_or-drop, drop-drop}
 use Rattle.std.proofs.lemmas.List.{length_push, get_or_push, get_or_append_left}
 use Rattle.std.proofs.lemmas.List.Sums.{fold-append}
 use Rattle.std.specs.List.{fold}
@@ -26,7 +24,7 @@ low_first_same (suc size) xs ys a b same =
     ap₂ (λ (x y : ℕ). x + 256 * y) (same a b (omega arith) (omega arith) (omega arith))
     (low_first_same size xs ys (suc a) (suc b) (λ m n above below e. same m n (omega (arith, above)) (omega (arith, below)) (omega (arith, e))))
 
-none_read : (size : ℕ) (bytes : List ℕ) (at : ℕ) → length bytes ≤ at → low_first size bytes at ≡ 0
+pub none_read : (size : ℕ) (bytes : List ℕ) (at : ℕ) → length bytes ≤ at → low_first size bytes at ≡ 0
 unfolding low_first
 none_read zero bytes at past = refl
 none_read (suc size) bytes at past = ap₂ (λ (x y : ℕ). x + 256 * y) (get_or-eq_default bytes 0 past) (none_read size bytes (suc at) (omega (arith, past)))
@@ -122,34 +120,3 @@ module _ (object : List ℕ) {chunks : List (List ℕ)} (rest : List (List ℕ))
 pub cut_read : (object : List ℕ) {cut : List ℕ} {n word : ℕ} → n ≡ length object / 8 → cut ≡ drop (length object / 8 * 8) object → word ≡ low_first 8 cut 0 → word ≡ low_first 8 object (n * 8)
 cut_read object count e here =
     here ∙ ap (λ (bytes : List ℕ). low_first 8 bytes 0) e ∙ low_drop (length object / 8 * 8) object ∙ ap (λ (k : ℕ). low_first 8 object (k * 8)) (sym count)
-
--- ---- words that are read one after the other
-
-zero_at : (n i : ℕ) → get_or {A = ℕ} (replicate n 0) i 0 ≡ 0
-zero_at n i = dite (dec_lt i n) (λ (inside : i < n). get_or-replicate n i 0 0 inside) (λ past. get_or-eq_default (replicate n 0) 0 (omega (arith, length-replicate {A = ℕ} n 0)))
-
--- the first i words are an object's, and those above them are zeros
-pub record Taken (object : List ℕ) (i : ℕ) (words : List ℕ) : Type 0 where
-  pub read : (k : ℕ) → k < i → get_or words k 0 ≡ low_first 8 object (k * 8)
-  pub zeros : (k : ℕ) → i ≤ k → get_or words k 0 ≡ 0
-
-pub taken_none : (object : List ℕ) (n : ℕ) → Taken object 0 (replicate n 0)
-taken_none object n = record { read = λ k h. absurd (omega (arith, h)); zeros = λ k h. zero_at n k }
-
-pub taken_more : (object words : List ℕ) (i x : ℕ) → Taken object i words → i < length words → x ≡ low_first 8 object (i * 8) → Taken object (i + 1) (set words i x)
-taken_more object words i x t room e =
-    record {
-      read = λ k h.
-          dite (dec_lt k i)
-          (λ (before : k < i). get_or-set_other words i k x 0 (λ same. omega (arith, same, before)) ∙ t.read k before)
-          (λ late.
-          let here : k ≡ i = omega arith in
-          ap (λ (l : ℕ). get_or (set words i x) l 0) here ∙ get_or-set_same words i x 0 room ∙ e ∙ ap (λ (l : ℕ). low_first 8 object (l * 8)) (sym here));
-      zeros = λ k h. get_or-set_other words i k x 0 (λ same. omega (arith, same, h)) ∙ t.zeros k (omega (arith, h));
-    }
-
-pub taken_all : (object words : List ℕ) (i : ℕ) → Taken object i words → length object ≤ i * 8 → (k : ℕ) → get_or words k 0 ≡ low_first 8 object (k * 8)
-taken_all object words i t short k =
-    dite (dec_lt k i)
-    (λ (before : k < i). t.read k before)
-    (λ late. t.zeros k (omega arith) ∙ sym (none_read 8 object (k * 8) (omega (arith, short))))

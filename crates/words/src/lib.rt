@@ -11,6 +11,8 @@ ghost use Rattle.components.specs.Relations.{Relation, Holds, own, third as by_t
 ghost use Rattle.components.specs.Words.{of_word, of_words};
 ghost use Rattle.words.specs.Rows.{two, four, Stands};
 
+use std::array;
+
 // Components 1 and 2.
 #[derive(Clone, Copy)]
 pub struct Two {
@@ -160,21 +162,24 @@ fn left<R: Remainder>(object: &[u8]) -> R
 
 // ---- Words of an object, low byte first.
 
-// So many words as hold an object; past its end there are zeros.
+// So many words as hold an object.
 fn words_of<const W: usize>(object: &[u8]) -> [u64; W]
     requires { length object.now ≤ 8 * W }
     ensures { (j : ℕ) → of_words j result ≡ signature GF16 2 object.now j }
 {
+    array::from_fn(|i| word_at(object, i))
+}
+
+// Past the end of an object there are zeros.
+fn word_at(object: &[u8], i: usize) -> u64
+    ensures { result ≡ low_first 8 object.now (i * 8) }
+{
     let (whole, cut) = object.as_chunks::<8>();
-    let mut words = [0; W];
-    // By index: where an `iter_mut` has ended, a proof knows how long the row is, and not its words.
-    for (i, bytes) in whole.iter().enumerate() {
-        words[i] = u64::from_le_bytes(*bytes);
+    match whole.get(i) {
+        Some(bytes) => u64::from_le_bytes(*bytes),
+        None if i == whole.len() => cut_word(cut),
+        None => 0,
     }
-    if whole.len() < W {
-        words[whole.len()] = cut_word(cut);
-    }
-    words
 }
 
 // Byte by byte, from the last one down.

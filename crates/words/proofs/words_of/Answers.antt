@@ -1,34 +1,30 @@
--- `words::words_of` meets its contract: whole words, and one that is cut off where there is room.
+-- `words::words_of` meets its contract: the words of an object have its components.
 -- Assumes nothing.
-use Rattle.std.proofs.Common.{List, ℕ, ◌∙◌, ◌+◌, subst, set, length, length-set, arith}
-use Rattle.std.proofs.lemmas.List.{length-replicate}
-use Rattle.words.proofs.Reading.{chunks_all, cut_read, Taken, taken_none, taken_more}
-use Rattle.words.proofs.Dividing.{taken_stand}
+use mathlib.Core.Path.{◌≡◌, ap, subst, ◌∙◌}
+use mathlib.Core.List.{List}
+use Prim.Native.Nat.{ℕ, zero, suc, ◌+◌, ◌*◌, ◌<◌}
+use native.Mathlib.Omega.{arith}
+use lib.ListN.{get_or}
+use denote.Param.Members.{Mut, Called}
+use Rattle.std.proofs.Common.{rules}
+use Rattle.std.specs.Array.{IsFromFnResultFrom}
+use Rattle.components.specs.Objects.{low_first}
+use Rattle.words.proofs.Dividing.{words_stand}
 use Rattle.words.proofs.words_of.Goals as goal
 
-pub loop-i-init : goal.loop-i-init
-loop-i-init g c = record { size = length-replicate g.row.W 0; taken = taken_none c.args.object.now g.row.W }
+-- calls that leave a closure as it is give its values, index by index
+each_value : {F : Type 0} (g : Mut F (ℕ × Unit {0}) ℕ) (value : F → ℕ → ℕ) (ys : List ℕ) → ((p q : F) (i y : ℕ) → Called g p (i, tt) y q → (y ≡ value p i) × (q ≡ p))
+    → (n i : ℕ) (f : F) → IsFromFnResultFrom g f ys i n → (k l : ℕ) → k < n → i + k ≡ l → get_or ys l 0 ≡ value f l
+each_value g value ys calls zero i f each k l h at = absurd (omega (arith, h))
+each_value g value ys calls (suc n) i f each zero l h at =
+    subst (λ (m : ℕ). get_or ys m 0 ≡ value f m) (omega (arith, at)) (each.2.1 0 ∙ (calls f each.0 i each.1 each.3).0)
+each_value g value ys calls (suc n) i f each (suc k) l h at =
+    each_value g value ys calls n (i + 1) each.0 each.4 k l (omega (arith, h)) (omega (arith, at)) ∙ ap (λ (p : _). value p l) (calls f each.0 i each.1 each.3).1
 
-pub loop-i-preserved : goal.loop-i-preserved
-loop-i-preserved g c =
-    let inv = c.loop-i.invariant in
-    let chunks = chunks_all c.args.object.now c.as_chunks.ensures.front c.as_chunks.ensures.front_len in
-    record {
-      size = length-set c.loop-i.words c.loop-i.i c.from_le_bytes.result ∙ inv.size;
-      taken = taken_more c.args.object.now c.loop-i.words c.loop-i.i c.from_le_bytes.result inv.taken (omega (arith, c.as_chunks.ensures.front_len, inv.size)) (c.from_le_bytes.ensures ∙ chunks.read c.loop-i.i (omega arith));
-    }
-
-pub returns-then-whole : goal.returns-then-whole
-returns-then-whole g c =
-    let inv = c.loop-i.invariant in
-    let object : List ℕ = c.args.object.now in
-    let n : ℕ = length c.as_chunks.result.0.now in
-    let before : Taken object n c.loop-i.words = subst (λ (i : ℕ). Taken object i c.loop-i.words) (omega arith) inv.taken in
-    let all : Taken object (n + 1) (set c.loop-i.words n c.cut_word.result) =
-    taken_more object c.loop-i.words n c.cut_word.result before (omega (arith, inv.size)) (cut_read object c.as_chunks.ensures.front_len c.as_chunks.ensures.back c.cut_word.ensures) in
-    taken_stand object (λ i. (c.type_inv.object i).fits) _ (n + 1) all (omega (arith, c.as_chunks.ensures.front_len)) (omega (arith, c.requires, inv.size, length-set c.loop-i.words n c.cut_word.result))
-
-pub returns-else-whole : goal.returns-else-whole
-returns-else-whole g c =
-    let inv = c.loop-i.invariant in
-    taken_stand c.args.object.now (λ i. (c.type_inv.object i).fits) c.loop-i.words c.loop-i.i inv.taken (omega (arith, c.requires, c.as_chunks.ensures.front_len)) (omega (arith, c.requires, inv.size))
+pub returns : goal.returns
+returns g c = λ j.
+    words_stand c.args.object.now (λ i. (c.type_inv.object i).fits) c.from_fn.result 0 j (omega (arith, c.requires, c.from_fn.ensures.items.long))
+    (λ k h.
+    each_value _ (λ p i. low_first 8 p.0.now (i * 8)) c.from_fn.result (λ p q i y called. (search (rules, called.met.0), search (rules, called.met.1)))
+    g.row.W 0 _ c.from_fn.ensures.items.each k k (omega (arith, c.from_fn.ensures.items.long)) (omega arith)
+    ∙ ap (low_first 8 c.args.object.now) (omega arith))
