@@ -15,41 +15,6 @@ pub struct Tagged {
     pub next: usize,
 }
 
-// The field whose tag stands at a place, in a map of n components.
-fn field_at(n: usize, map: &[u8], at: usize) -> Option<Tagged>
-    ensures { result ≡ field_at n map.now at }
-{
-    if map.len() < 3 || at > map.len() - 3 {
-        return None;
-    }
-    match map[at] {
-        0 => None,
-        1 => under_rule(1, map, at),
-        2 | 3 => under_rule(4, map, at),
-        4 => under_rule(units::bytes_of(Symbols { count: n }).count, map, at),
-        5..=255 => None,
-    }
-}
-
-// The field by its rule: the length due, and a value that is not cut off.
-fn under_rule(size: usize, map: &[u8], at: usize) -> Option<Tagged>
-    requires { at + 3 ≤ length map.now }
-    ensures { result ≡ under_rule (long size) map.now at }
-{
-    if signature::two_bytes(map, at + 1) != size {
-        return None;
-    }
-    let value = at + 3;
-    if size > map.len() - value {
-        return None;
-    }
-    Some(Tagged {
-        tag: map[at],
-        value,
-        next: value + size,
-    })
-}
-
 // A map's bytes, and the place that reading has come to.
 #[derive(Clone, Copy)]
 pub struct Reader<'a> {
@@ -69,9 +34,44 @@ impl<'a> Reader<'a> {
     pub fn next<'s>(&'s mut self, n: usize) -> Option<Tagged>
         ensures { advanced_of result self.new ≡ advancing n self.old }
     {
-        let field = field_at(n, self.bytes, self.place)?;
+        let field = self.field(n)?;
         self.place = field.next;
         Some(field)
+    }
+
+    // The field whose tag stands at the reader's place, in a map of n components.
+    fn field(&self, n: usize) -> Option<Tagged>
+        ensures { result ≡ field_at n self.now.bytes.now self.now.place }
+    {
+        if self.bytes.len() < 3 || self.place > self.bytes.len() - 3 {
+            return None;
+        }
+        match self.bytes[self.place] {
+            0 => None,
+            1 => self.under_rule(1),
+            2 | 3 => self.under_rule(4),
+            4 => self.under_rule(units::bytes_of(Symbols { count: n }).count),
+            5..=255 => None,
+        }
+    }
+
+    // The field by its rule: the length due, and a value that is not cut off.
+    fn under_rule(&self, size: usize) -> Option<Tagged>
+        requires { self.now.place + 3 ≤ length self.now.bytes.now }
+        ensures { result ≡ under_rule (long size) self.now.bytes.now self.now.place }
+    {
+        if signature::two_bytes(self.bytes, self.place + 1) != size {
+            return None;
+        }
+        let value = self.place + 3;
+        if size > self.bytes.len() - value {
+            return None;
+        }
+        Some(Tagged {
+            tag: self.bytes[self.place],
+            value,
+            next: value + size,
+        })
     }
 }
 

@@ -13,7 +13,7 @@ ghost use Rattle.words.specs.Rows.{two, four, Stands};
 
 use std::array;
 
-// Components 1 and 2.
+// Components 1 and 2. A type beside `Four`, and no array: `two` and `four`, which are promised of `first_two` and `first_four`, have these fields.
 #[derive(Clone, Copy)]
 pub struct Two {
     pub s1: u16,
