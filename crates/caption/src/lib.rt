@@ -15,7 +15,7 @@ ghost use Rattle.caption.specs.Searches.{found, places_for, searched_of, search_
 
 use units::{Bytes, Refusal};
 
-// The code of a plain field, written to the start of the output.
+// The code of a plain field, written to the start of the output. Three lines as in `decode`: one function for both would need a longer contract, on what it is to put.
 pub fn encode(caption: &[u8], output: &mut [u8]) -> Result<Bytes, Refusal>
     ensures { outcome_of result output.new ≡ encoding 0 caption.now output.old }
 {

@@ -4,6 +4,7 @@
 #![tactic(auto)]
 
 use program::Buffer;
+use units::{Bytes, Refusal};
 
 #[derive(Drop)]
 struct Desk {
@@ -32,6 +33,7 @@ impl Desk {
     fn command(&mut self, letter: u8, x: u16, high: u8) {
         let place = usize::from(x);
         let n = place + usize::from(high) * 65_536;
+        // A match and no table of closures: each command takes its own part of the desk.
         match letter {
             b'C' => self.caption.set(place, high),
             b'P' => self.pattern.set(place, high),
@@ -42,22 +44,18 @@ impl Desk {
             b'p' => self.pattern.lent = n,
             b'o' => self.output.lent = n,
             b'l' => self.list.lent = n,
-            b'e' => self.encode(),
-            b'd' => self.decode(),
+            b'e' => self.recode(caption::encode),
+            b'd' => self.recode(caption::decode),
             b's' => self.search(),
             _ => {}
         }
     }
 
-    fn encode(&mut self) {
+    fn recode<F: Fn(&[u8], &mut [u8]) -> Result<Bytes, Refusal>>(&mut self, recode: F)
+        requires { F.IsAlwaysCallable recode }
+    {
         let caption = self.caption.part();
-        program::filled(caption::encode(caption, self.output.part_mut()));
-        ends(&self.output.all, caption.len());
-    }
-
-    fn decode(&mut self) {
-        let caption = self.caption.part();
-        program::filled(caption::decode(caption, self.output.part_mut()));
+        program::filled(recode(caption, self.output.part_mut()));
         ends(&self.output.all, caption.len());
     }
 

@@ -9,7 +9,7 @@ use signature::Signature;
 use store::Answer;
 use units::{Bytes, Refusal, Symbols};
 
-// What a step did, by number.
+// What a step did, as C is told it: by number, and no enum crosses.
 pub const STEP_REFUSED: u32 = 0;
 
 pub const STEP_KEPT: u32 = 1;
@@ -18,7 +18,7 @@ pub const STEP_WRITTEN: u32 = 2;
 
 pub const STEP_FINISHED: u32 = 3;
 
-// What a repair found, by number.
+// What a repair found, as C is told it: by number, and no enum crosses.
 pub const REPAIR_REFUSED: u32 = 0;
 
 pub const REPAIR_WHOLE: u32 = 1;

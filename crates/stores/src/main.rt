@@ -33,6 +33,7 @@ impl Desk {
     fn command(&mut self, letter: u8, a: u8, b: u8) {
         let x = usize::from(a);
         let y = usize::from(b);
+        // A match and no table of closures: each command takes its own part of the desk.
         match letter {
             b'T' => self.table.set(x, b),
             b'I' => self.image.set(x, b),

@@ -26,7 +26,7 @@ pub struct Exponent {
     pub power: u16,
 }
 
-// A byte left over counts as a whole symbol.
+// A byte left over counts as a whole symbol. A function and no `From`: `symbols_of_one_answer` is promised of it, as `bytes_of_one_answer` is of the next.
 pub fn symbols_of(b: Bytes) -> Symbols
     ensures { result.count ≡ symbols_in 2 b.count }
 {
