@@ -1,4 +1,4 @@
--- `load::move_bucket` meets its contract: nothing moves unless no page is damaged, and then all of the image.
+-- `load::Open::move_to` meets its contract: nothing moves unless no page is damaged, and then all of the image.
 -- Assumes nothing.
 use Rattle.std.specs.Prelude.{Ok}
 use mathlib.Core.Path.{sym, ap, ◌∙◌}
@@ -10,7 +10,7 @@ use Rattle.units.specs.Filling.{outcome_of}
 use Rattle.units.proofs.Writing.{written_whole}
 use Rattle.map.specs.Files.{pages}
 use Rattle.load.specs.Loads.{lowest_damaged, open_load}
-use Rattle.load.proofs.move_bucket.Goals as goal
+use Rattle.load.proofs.Open.move_to.Goals as goal
 use Rattle.std.specs.Prelude.{Err}
 use Rattle.units.specs.declared.Refusal.{Refusal}
 
@@ -19,7 +19,7 @@ unfolding open_load
 returns-then-k-pages c =
     let lowest : _ = c.lowest_damaged-k in
     let args : _ = c.args in
-    let below : lowest_damaged args.h args.image.now args.map.now < pages args.h = omega (arith, lowest.ensures, c.pages.ensures) in
+    let below : lowest_damaged args.self.now.h args.self.now.image.now args.self.now.map.now < pages args.self.now.h = omega (arith, lowest.ensures, c.pages.ensures) in
     simp (lt-ltb _ _ below) (ap (λ (k : ℕ). outcome_of (Err (Refusal.Damaged k)) args.table.now) lowest.ensures)
 
 pub returns : goal.returns
@@ -29,5 +29,5 @@ returns c =
     let counted : _ = c.pages in
     let if1 : _ = c.if-k-pages in
     let args : _ = c.args in
-    let none : pages args.h ≤ lowest_damaged args.h args.image.now args.map.now = omega (arith, lowest.ensures, counted.ensures, if1.false) in
-    simp (le-ltb _ _ none) (ap (outcome_of (Ok (record { count = length args.image.now }))) (c.copy_from_slice.ensures.after ∙ sym (written_whole args.table.now args.image.now c.requires)))
+    let none : pages args.self.now.h ≤ lowest_damaged args.self.now.h args.self.now.image.now args.self.now.map.now = omega (arith, lowest.ensures, counted.ensures, if1.false) in
+    simp (le-ltb _ _ none) (ap (outcome_of (Ok (record { count = length args.self.now.image.now }))) (c.copy_from_slice.ensures.after ∙ sym (written_whole args.table.now args.self.now.image.now c.requires)))
