@@ -1,4 +1,4 @@
--- A backup that was opened, as the methods hand it on: what it says of its table, image and map, and what is said of it by what it was made of.
+-- A backup that was opened, as its methods hand it on, and what its caller's image and map hold then.
 -- Assumes nothing.
 use mathlib.Core.Path.{◌≡◌, ap₂, ◌∙◌}
 use mathlib.Core.List.{List}
@@ -12,6 +12,7 @@ use Rattle.store.specs.declared.Place.{Place}
 use Rattle.store.specs.declared.Step.{Step}
 use Rattle.store.proofs.Underway.{Ready}
 
+-- a store may start from it
 pub ready : (o : Open) → Ready o.h o.table.now o.image.now o.map.now
 ready o =
     record {
@@ -33,7 +34,8 @@ pub stepped : (old mid : Open) (place : Place) → IsAsOpened old mid → {s : S
 stepped old mid place same e = e ∙ ap₂ (λ h table. open_step h table mid.image.now mid.map.now place) same.0 same.1
 
 -- the caller's image and map hold what those of the backup hold
-pub stepped_by : (s : Step) (image map image' map' : List ℕ) → image' ≡ image → map' ≡ map → {after : Stepped} → stepped_of s image map ≡ after → stepped_of s image' map' ≡ after
+pub stepped_by : (s : Step) (image map image' map' : List ℕ) → image' ≡ image → map' ≡ map → {after : Stepped} → stepped_of s image map ≡ after
+    → stepped_of s image' map' ≡ after
 stepped_by s image map image' map' image_is map_is e = ap₂ (stepped_of s) image_is map_is ∙ e
 
 pub stored_by : (a : Listed) (image map list image' map' : List ℕ) → image' ≡ image → map' ≡ map → {after : Stored} → stored_of a image map list ≡ after

@@ -83,7 +83,8 @@ pub fn store(
     backup.store(list)
 }
 
-// A backup that was opened, with the table that it is to hold. It is made where it is used: what a call leaves behind two `&mut`s that it puts into a struct, its caller does not learn.
+// A backup that was opened, with the table that it is to hold.
+// Made where it is used: a function that opens and makes it has no clause for image and map where opening refuses.
 #[derive(Drop)]
 struct Open<'a> {
     h: Header,
@@ -101,6 +102,7 @@ struct Open<'a> {
 impl<'a> Open<'a> {
     ghost use Rattle.store.specs.Opens.{IsAsOpened};
 
+    // The page at the place is passed, unless the place is at the end of the pages or above it.
     fn step(&mut self, place: Place) -> Step
         ensures same_backup { IsAsOpened self.old self.new }
         ensures stepped { stepped_of result self.new.image.now self.new.map.now ≡ open_step self.old.h self.old.table.now self.old.image.now self.old.map.now place }
@@ -122,6 +124,7 @@ impl<'a> Open<'a> {
         self.pass(k)
     }
 
+    // A method, since `self.map` lent from a `&mut self` comes back with its length alone known.
     fn entry(&self, k: usize) -> Entry
         ensures { result ≡ entry_at self.now.h.n self.now.map.now k }
     {

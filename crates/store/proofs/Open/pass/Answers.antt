@@ -31,12 +31,19 @@ use Rattle.store.proofs.Passing.{passed_of, kept_passing, written_passing, writt
 use Rattle.store.proofs.Open.pass.Goals as goal
 
 -- a page of the table has its place in the image
-page_fits : (h : Header) (table image map : List ℕ) (k : ℕ) (page : List ℕ) → reading map ≡ Ok h → length table ≡ h.bucket.count → length image ≡ h.bucket.count
-    → k < pages h → page ≡ page_at h.page.count table k → k * h.page.count + length page ≤ length image
-page_fits h table image map k page holds table_length image_length inside cut =
-    let starts : k * h.page.count < h.bucket.count = page_starts h (holds_sized map h holds) k inside in
-    let long : length page ≡ min h.page.count (length table - k * h.page.count) = ap length cut ∙ page_length h.page.count table k in
-    omega (arith, table_length, image_length)
+page_fits : (o : Open) (k : ℕ) (page : List ℕ) → k < pages o.h → page ≡ page_at o.h.page.count o.table.now k
+    → k * o.h.page.count + length page ≤ length o.image.now
+page_fits o k page inside cut =
+    let starts : k * o.h.page.count < o.h.bucket.count = page_starts o.h (holds_sized o.map.now o.h o.holds) k inside in
+    let long : length page ≡ min o.h.page.count (length o.table.now - k * o.h.page.count) = ap length cut ∙ page_length o.h.page.count o.table.now k in
+    omega (arith, o.table_length, o.image_length)
+
+-- the entry that is put is that of the page
+entry_made : (h : Header) (table map : List ℕ) (k : ℕ) {s : Signature} {page new : List ℕ} → new ≡ entry_put (record { tag = 4; signature = s }) map k
+    → s ≡ own wide h.n page → page ≡ page_at h.page.count table k → new ≡ entry_put (made_entry h.n h.page.count table k) map k
+unfolding made_entry
+entry_made h table map k put signed cut =
+    put ∙ ap (λ (s : Signature). entry_put (record { tag = 4; signature = s }) map k) (signed ∙ ap (own wide h.n) cut)
 
 pub invariant_of-self-clause-image_length : goal.invariant_of-self-clause-image_length
 invariant_of-self-clause-image_length c = c.put_part.auto.buffer ∙ c.args.self.now.image_length
@@ -46,13 +53,11 @@ invariant_of-self-2-clause-map_octets c i =
     rw c.put_entry.ensures (put_octets c.own-own.result c.args.self.now.map.now c.args.k c.args.self.now.map_octets i)
 
 pub invariant_of-self-2-clause-holds : goal.invariant_of-self-2-clause-holds
-unfolding made_entry
 invariant_of-self-2-clause-holds c =
     let self : Open = c.args.self.now in
     let agreed : agrees self.h (entry_at self.h.n self.map.now) self.table.now c.args.k ≡ false =
     agrees_by _ _ _ _ _ _ _ _ c.page_at-page.ensures c.own-own.ensures c.entry-entry.ensures c.same.ensures ∙ c.if-same.false in
-    ap reading (c.put_entry.ensures
-    ∙ ap (λ (s : Signature). entry_put (record { tag = 4; signature = s }) self.map.now c.args.k) (c.own-own.ensures ∙ ap (own wide self.h.n) c.page_at-page.ensures))
+    ap reading (entry_made self.h self.table.now self.map.now c.args.k c.put_entry.ensures c.own-own.ensures c.page_at-page.ensures)
     ∙ written_reads self.h self.table.now self.image.now self.map.now c.args.k self.map_octets self.holds self.table_octets c.requires agreed
 
 pub returns-then-same-clause-passed : goal.returns-then-same-clause-passed
@@ -64,17 +69,17 @@ returns-then-same-clause-passed c =
     ∙ sym (kept_passing self.h self.table.now self.image.now self.map.now c.args.k self.map_octets self.holds agreed)
 
 pub returns-clause-passed : goal.returns-clause-passed
-unfolding made_entry
 returns-clause-passed c =
     let self : Open = c.args.self.now in
     let page : ℕ = self.h.page.count in
     let at : _ = c.page_at-page in
     let agreed : agrees self.h (entry_at self.h.n self.map.now) self.table.now c.args.k ≡ false =
     agrees_by _ _ _ _ _ _ _ _ at.ensures c.own-own.ensures c.entry-entry.ensures c.same.ensures ∙ c.if-same.false in
-    let fits : c.args.k * page + length at.result.now ≤ length self.image.now = page_fits self.h self.table.now self.image.now self.map.now c.args.k at.result.now self.holds self.table_length self.image_length c.requires at.ensures in
-    ap {B = Stepped} (λ (p : ℕ). record { answer = Ok (Written c.args.k); next = record { page = p }; image = c.put_part.new.buffer; map = c.put_entry.new.map }) (add-one c.args.k)
+    let fits : c.args.k * page + length at.result.now ≤ length self.image.now =
+    page_fits self c.args.k at.result.now c.requires at.ensures in
+    ap {B = Stepped} (λ (p : ℕ). record { answer = Ok (Written c.args.k); next = record { page = p }; image = c.put_part.new.buffer; map = c.put_entry.new.map })
+    (add-one c.args.k)
     ∙ ap₂ (passed_of (Written c.args.k) c.args.k)
     (c.put_part.ensures ∙ part_put_lem _ self.image.now _ fits ∙ ap (written self.image.now (c.args.k * page)) at.ensures)
-    (c.put_entry.ensures
-    ∙ ap (λ (s : Signature). entry_put (record { tag = 4; signature = s }) self.map.now c.args.k) (c.own-own.ensures ∙ ap (own wide self.h.n) at.ensures))
+    (entry_made self.h self.table.now self.map.now c.args.k c.put_entry.ensures c.own-own.ensures at.ensures)
     ∙ sym (written_passing self.h self.table.now self.image.now self.map.now c.args.k self.map_octets self.holds self.table_octets c.requires agreed)

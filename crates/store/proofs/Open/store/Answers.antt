@@ -77,8 +77,11 @@ loop-answer-preserved c =
     let enough : pages old.h ≤ length c.args.list.now = omega (arith, c.pages-count.ensures) in
     let loop : _ = c.loop-answer in
     let e : _ = stepped old loop.self loop.place loop.invariant.0 c.step-step.ensures.stepped in
-    let p : Passed (ready old) loop.invariant.1 e × _ × _ = on_written (ready old) loop.invariant.1 e (c.in_ok-answer.was ∙ ap Ok c.in-Written.is) in
-    (then_as old loop.self c.step-step.new.self loop.invariant.0 c.step-step.ensures.same_backup, p.0.next, noted_written loop.invariant.2 p.0.up p.2 p.1 (omega (arith, p.0.inside, enough)))
+    let p : Passed (ready old) loop.invariant.1 e × _ × _ = on_written (ready old) loop.invariant.1 e (c.in_ok-answer.was ∙ ap Ok c.in-Written.is) in (
+      then_as old loop.self c.step-step.new.self loop.invariant.0 c.step-step.ensures.same_backup,
+      p.0.next,
+      noted_written loop.invariant.2 p.0.up p.2 p.1 (omega (arith, p.0.inside, enough)),
+    )
 
 pub returns-in-Finished-clause-stored : goal.returns-in-Finished-clause-stored
 returns-in-Finished-clause-stored c =
