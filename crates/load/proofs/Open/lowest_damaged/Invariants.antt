@@ -9,4 +9,5 @@ use Rattle.load.proofs.Open.lowest_damaged.Given as goal
 
 abbrev pub invariant-loop-k : goal.invariant-loop-k
 invariant-loop-k l =
-    first_named (damaged l.fn.self.h l.fn.self.image.now l.fn.self.map.now) (pages l.fn.self.h - l.k) l.k ≡ lowest_damaged l.fn.self.h l.fn.self.image.now l.fn.self.map.now
+    let o : _ = l.fn.self in
+    first_named (damaged o.h o.image.now o.map.now) (pages o.h - l.k) l.k ≡ lowest_damaged o.h o.image.now o.map.now

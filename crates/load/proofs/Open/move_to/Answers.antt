@@ -9,6 +9,7 @@ use borrow.Author.Tests.{lt-ltb, le-ltb}
 use Rattle.units.specs.Filling.{outcome_of}
 use Rattle.units.proofs.Writing.{written_whole}
 use Rattle.map.specs.Files.{pages}
+use Rattle.load.specs.declared.Open.{Open}
 use Rattle.load.specs.Loads.{lowest_damaged, open_load}
 use Rattle.load.proofs.Open.move_to.Goals as goal
 use Rattle.std.specs.Prelude.{Err}
@@ -18,16 +19,15 @@ pub returns-then-k-pages : goal.returns-then-k-pages
 unfolding open_load
 returns-then-k-pages c =
     let lowest : _ = c.lowest_damaged-k in
-    let args : _ = c.args in
-    let below : lowest_damaged args.self.now.h args.self.now.image.now args.self.now.map.now < pages args.self.now.h = omega (arith, lowest.ensures, c.pages.ensures) in
-    simp (lt-ltb _ _ below) (ap (λ (k : ℕ). outcome_of (Err (Refusal.Damaged k)) args.table.now) lowest.ensures)
+    let o : Open = c.args.self.now in
+    let below : lowest_damaged o.h o.image.now o.map.now < pages o.h = omega (arith, lowest.ensures, c.pages.ensures) in
+    simp (lt-ltb _ _ below) (ap (λ (k : ℕ). outcome_of (Err (Refusal.Damaged k)) c.args.table.now) lowest.ensures)
 
 pub returns : goal.returns
 unfolding open_load
 returns c =
     let lowest : _ = c.lowest_damaged-k in
-    let counted : _ = c.pages in
-    let if1 : _ = c.if-k-pages in
-    let args : _ = c.args in
-    let none : pages args.self.now.h ≤ lowest_damaged args.self.now.h args.self.now.image.now args.self.now.map.now = omega (arith, lowest.ensures, counted.ensures, if1.false) in
-    simp (le-ltb _ _ none) (ap (outcome_of (Ok (record { count = length args.self.now.image.now }))) (c.copy_from_slice.ensures.after ∙ sym (written_whole args.table.now args.self.now.image.now c.requires)))
+    let o : Open = c.args.self.now in
+    let none : pages o.h ≤ lowest_damaged o.h o.image.now o.map.now = omega (arith, lowest.ensures, c.pages.ensures, c.if-k-pages.false) in
+    simp (le-ltb _ _ none)
+    (ap (outcome_of (Ok (record { count = length o.image.now }))) (c.copy_from_slice.ensures.after ∙ sym (written_whole c.args.table.now o.image.now c.requires)))

@@ -34,23 +34,27 @@ value_is d i sum read times undone = sum ∙ ap₂ ◌⊕◌ read (times ∙ ap 
 
 pub returns-then-i-count : goal.returns-then-i-count
 returns-then-i-count c =
-    let sought : Sought c.args.self.now.s c.args.self.now.own c.args.self.now.page.now c.sum-d.result c.sum.result c.symbols_in-count.result.count c.power_between-i.result =
-    sought_at c.args.self.now c.requires c.sum-d.ensures c.sum.ensures c.symbols_in-count.ensures c.power_between-i.ensures in
+    let p : Signed = c.args.self.now in
+    let sought : Sought p.s p.own p.page.now c.sum-d.result c.sum.result c.symbols_in-count.result.count c.power_between-i.result =
+    sought_at p c.requires c.sum-d.ensures c.sum.ensures c.symbols_in-count.ensures c.power_between-i.ensures in
     sym (find_past sought c.if-i-count.true)
 
 pub returns-then-not-fits : goal.returns-then-not-fits
 returns-then-not-fits c =
-    let sought : Sought c.args.self.now.s c.args.self.now.own c.args.self.now.page.now c.sum-d.result c.sum.result c.symbols_in-count.result.count c.power_between-i.result =
-    sought_at c.args.self.now c.requires c.sum-d.ensures c.sum.ensures c.symbols_in-count.ensures c.power_between-i.ensures in
-    let value : _ ≡ symbol 2 c.args.self.now.page.now c.power_between-i.result ⊕ product GF16 c.sum-d.result (power GF16 α (65535 - c.power_between-i.result % 65535)) =
+    let p : Signed = c.args.self.now in
+    let sought : Sought p.s p.own p.page.now c.sum-d.result c.sum.result c.symbols_in-count.result.count c.power_between-i.result =
+    sought_at p c.requires c.sum-d.ensures c.sum.ensures c.symbols_in-count.ensures c.power_between-i.ensures in
+    let value : _ ≡ symbol 2 p.page.now c.power_between-i.result ⊕ product GF16 c.sum-d.result (power GF16 α (65535 - c.power_between-i.result % 65535)) =
     value_is c.sum-d.result c.power_between-i.result c.sum-new.ensures c.symbol-old.ensures c.times_power.ensures c.exponent_back.ensures in
     sym (find_none sought _ value (sym c.fits.ensures ∙ c.if-not-fits.true))
 
 pub returns : goal.returns
 returns c =
-    let sought : Sought c.args.self.now.s c.args.self.now.own c.args.self.now.page.now c.sum-d.result c.sum.result c.symbols_in-count.result.count c.power_between-i.result =
-    sought_at c.args.self.now c.requires c.sum-d.ensures c.sum.ensures c.symbols_in-count.ensures c.power_between-i.ensures in
-    let value : _ ≡ symbol 2 c.args.self.now.page.now c.power_between-i.result ⊕ product GF16 c.sum-d.result (power GF16 α (65535 - c.power_between-i.result % 65535)) =
+    let p : Signed = c.args.self.now in
+    let sought : Sought p.s p.own p.page.now c.sum-d.result c.sum.result c.symbols_in-count.result.count c.power_between-i.result =
+    sought_at p c.requires c.sum-d.ensures c.sum.ensures c.symbols_in-count.ensures c.power_between-i.ensures in
+    let value : _ ≡ symbol 2 p.page.now c.power_between-i.result ⊕ product GF16 c.sum-d.result (power GF16 α (65535 - c.power_between-i.result % 65535)) =
     value_is c.sum-d.result c.power_between-i.result c.sum-new.ensures c.symbol-old.ensures c.times_power.ensures c.exponent_back.ensures in
-    ap (λ (x : ℕ). Repaired (record { position = record { count = c.power_between-i.result }; old = x; new = c.sum-new.result; marked = eqb c.args.self.now.s.n 2 })) c.symbol-old.ensures
+    ap (λ (x : ℕ). Repaired (record { position = record { count = c.power_between-i.result }; old = x; new = c.sum-new.result; marked = eqb p.s.n 2 }))
+    c.symbol-old.ensures
     ∙ sym (find_one sought _ value (omega arith) (sym c.fits.ensures ∙ c.if-not-fits.false))
