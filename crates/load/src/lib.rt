@@ -38,32 +38,11 @@ pub fn open_page(image: &[u8], map: &[u8], k: usize) -> Result<Header, Refusal>
     if k >= map::pages(h) {
         return Err(Refusal::PageNo);
     }
-    if !whole(h, image, map, k) {
+    let backup = Open { h, image, map };
+    if !backup.whole(k) {
         return Err(Refusal::Damaged(k));
     }
     Ok(h)
-}
-
-// Whether page k of the image has its entry's signature.
-fn whole(h: Header, image: &[u8], map: &[u8], k: usize) -> bool
-    ensures { result ≡ agrees h (entry_at h.n map.now) image.now k }
-{
-    let own = signature::own(h.n, map::page_at(h.page, image, k));
-    let entry = map::entry_at(h.n, map, k);
-    backup::same(own, entry.signature)
-}
-
-// The lowest page that is not, and the page count if all are.
-fn lowest_damaged(h: Header, image: &[u8], map: &[u8]) -> usize
-    ensures { result ≡ lowest_damaged h image.now map.now }
-{
-    let count = map::pages(h);
-    for k in 0..count {
-        if !whole(h, image, map, k) {
-            return k;
-        }
-    }
-    count
 }
 
 // All of the image goes to the table, when every page of it was found whole.
@@ -75,17 +54,53 @@ pub fn load_bucket(image: &[u8], map: &[u8], table: &mut [u8]) -> Result<Bytes, 
         Bytes { count: image.len() },
         map,
     )?;
-    move_bucket(h, image, map, table)
+    let backup = Open { h, image, map };
+    backup.move_to(table)
 }
 
-fn move_bucket(h: Header, image: &[u8], map: &[u8], table: &mut [u8]) -> Result<Bytes, Refusal>
-    requires { length image.now ≡ length table.old }
-    ensures { outcome_of result table.new ≡ open_load h image.now map.now table.old }
-{
-    let k = lowest_damaged(h, image, map);
-    if k < map::pages(h) {
-        return Err(Refusal::Damaged(k));
+// A backup that was opened.
+#[derive(Clone, Copy)]
+struct Open<'a> {
+    h: Header,
+    image: &'a [u8],
+    map: &'a [u8],
+}
+
+impl<'a> Open<'a> {
+    // Whether page k of the image has its entry's signature.
+    fn whole(&self, k: usize) -> bool
+        ensures { result ≡ agrees self.now.h (entry_at self.now.h.n self.now.map.now) self.now.image.now k }
+    {
+        let own = signature::own(self.h.n, map::page_at(self.h.page, self.image, k));
+        let entry = map::entry_at(self.h.n, self.map, k);
+        backup::same(own, entry.signature)
     }
-    table.copy_from_slice(image);
-    Ok(Bytes { count: image.len() })
+
+    // The lowest page that is not, and the page count if all are.
+    fn lowest_damaged(&self) -> usize
+        ensures { result ≡ lowest_damaged self.now.h self.now.image.now self.now.map.now }
+    {
+        let count = map::pages(self.h);
+        for k in 0..count {
+            if !self.whole(k) {
+                return k;
+            }
+        }
+        count
+    }
+
+    // All of the image, when no page is damaged.
+    fn move_to(&self, table: &mut [u8]) -> Result<Bytes, Refusal>
+        requires { length self.now.image.now ≡ length table.old }
+        ensures { outcome_of result table.new ≡ open_load self.now.h self.now.image.now self.now.map.now table.old }
+    {
+        let k = self.lowest_damaged();
+        if k < map::pages(self.h) {
+            return Err(Refusal::Damaged(k));
+        }
+        table.copy_from_slice(self.image);
+        Ok(Bytes {
+            count: self.image.len(),
+        })
+    }
 }

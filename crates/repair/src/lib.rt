@@ -6,7 +6,7 @@ ghost use Rattle.units.specs.Naming.{first_named};
 ghost use Rattle.field.specs.Field.{GF16, α};
 ghost use Rattle.field.specs.Field.{product as field_product, power as field_power};
 ghost use Rattle.signature.specs.Kinds.{wide};
-ghost use Rattle.signature.specs.Objects.{low_bytes, symbol as object_symbol, symbols as object_symbols};
+ghost use Rattle.signature.specs.Objects.{Octets, low_bytes, symbol as object_symbol, symbols as object_symbols};
 ghost use Rattle.signature.specs.Operations.{own as object_own};
 ghost use Rattle.map.specs.Reading.{reading};
 ghost use Rattle.backup.specs.Backups.{same};
@@ -86,32 +86,63 @@ fn diagnose(entry: Entry, page: &[u8]) -> Repair
     if backup::same(own, s) {
         return Repair::Whole;
     }
-    find(s, own, page)
+    let signed = Signed { page, s, own };
+    signed.find()
 }
 
-// How the first two components differ names one position and one value there. Whether that fits, the signature of the page changed so decides.
-fn find(s: Signature, own: Signature, page: &[u8]) -> Repair
-    requires { Tells wide s page.now × (own ≡ object_own wide s.n page.now) × (same own s ≡ false) }
-    ensures { result ≡ page_put s page.now }
-{
-    let d = field::sum(own.s1, s.s1);
-    let count = signature::symbols_in(page).count;
-    let i = power_between(d, field::sum(own.s2, s.s2), count);
-    if i >= count {
-        return Repair::Beyond;
+// A page, the signature that its entry holds, which tells where it is wrong, and its own.
+#[derive(Clone, Copy)]
+struct Signed<'a> {
+    page: &'a [u8],
+    s: Signature,
+    own: Signature,
+    // a slice's elements are bytes by its type, a field's are where this says so
+    ghost octets: { Octets page.now },
+    ghost tells: { Tells wide s page.now },
+    ghost signed: { own ≡ object_own wide s.n page.now },
+}
+
+impl<'a> Signed<'a> {
+    // How the first two components differ names one position and one value there. Whether that fits, the signature of the page changed so decides.
+    fn find(&self) -> Repair
+        requires { same self.now.own self.now.s ≡ false }
+        ensures { result ≡ page_put self.now.s self.now.page.now }
+    {
+        let d = field::sum(self.own.s1, self.s.s1);
+        let count = signature::symbols_in(self.page).count;
+        let i = power_between(d, field::sum(self.own.s2, self.s.s2), count);
+        if i >= count {
+            return Repair::Beyond;
+        }
+        let position = Symbols { count: i };
+        let old = signature::symbol(self.page, position);
+        let new = field::sum(old, field::times_power(d, units::exponent_back(position)));
+        if !self.fits(position, new) {
+            return Repair::Beyond;
+        }
+        Repair::Repaired(Change {
+            position,
+            old,
+            new,
+            marked: self.s.n == 2,
+        })
     }
-    let position = Symbols { count: i };
-    let old = signature::symbol(page, position);
-    let new = field::sum(old, field::times_power(d, units::exponent_back(position)));
-    if !fits(s, own, page, position, new) {
-        return Repair::Beyond;
+
+    // Whether x in the place of symbol i gives the page the signature of its entry. The bound on i stands in three functions as it is: a name for it would be no shorter.
+    fn fits(&self, i: Symbols, x: u16) -> bool
+        requires { i.count < object_symbols 2 self.now.page.now }
+        ensures { result ≡ change_fits wide self.now.s self.now.page.now i.count x }
+    {
+        if !stays(self.page, i, x) {
+            return false;
+        }
+        let old = low_bytes(signature::symbol(self.page, i));
+        let new = low_bytes(x);
+        let Ok(t) = signature::edit(self.own, i, &old, &new) else {
+            return false;
+        };
+        backup::same(t, self.s)
     }
-    Repair::Repaired(Change {
-        position,
-        old,
-        new,
-        marked: s.n == 2,
-    })
 }
 
 // The lowest i below m for which a · α^i is b; m if there is none.
@@ -126,22 +157,6 @@ fn power_between(a: u16, b: u16, m: usize) -> usize
         x = field::double(x);
     }
     m
-}
-
-// Whether x in the place of symbol i gives the page the signature s.
-fn fits(s: Signature, own: Signature, page: &[u8], i: Symbols, x: u16) -> bool
-    requires { Tells wide s page.now × (own ≡ object_own wide s.n page.now) × (i.count < object_symbols 2 page.now) }
-    ensures { result ≡ change_fits wide s page.now i.count x }
-{
-    if !stays(page, i, x) {
-        return false;
-    }
-    let old = low_bytes(signature::symbol(page, i));
-    let new = low_bytes(x);
-    let Ok(t) = signature::edit(own, i, &old, &new) else {
-        return false;
-    };
-    backup::same(t, s)
 }
 
 // Whether the page holds all of x in the place of symbol i: the byte that completes a page is zero.

@@ -2,8 +2,9 @@
 #![tactic(auto)]
 
 ghost use Rattle.std.specs.Prelude.{◌≡◌, ◌<◌, length, Ok};
+ghost use Rattle.signature.specs.Objects.{Octets};
 ghost use Rattle.map.specs.Files.{pages as header_pages};
-ghost use Rattle.map.specs.Reading.{reading};
+ghost use Rattle.map.specs.Reading.{reading, entry_at};
 ghost use Rattle.store.specs.Steps.{stepped_of, passing, open_step, stepping};
 ghost use Rattle.store.specs.Stores.{stored_of, open_store, storing};
 
@@ -46,62 +47,16 @@ impl Place {
                 answer: Err(r),
                 next: self,
             },
-            Ok(h) => self.step_on(h, table, image, map),
+            Ok(h) => {
+                let mut backup = Open {
+                    h,
+                    table,
+                    image,
+                    map,
+                };
+                backup.step(self)
+            }
         }
-    }
-
-    // The same on a backup that was opened.
-    fn step_on(self, h: Header, table: &[u8], image: &mut [u8], map: &mut [u8]) -> Step
-        requires { (reading map.old ≡ Ok h) × (length table.now ≡ h.bucket.count) × (length image.old ≡ h.bucket.count) }
-        ensures { stepped_of result image.new map.new ≡ open_step h table.now image.old map.old self }
-    {
-        let k = self.page;
-        let count = map::pages(h);
-        if k > count {
-            return Step {
-                answer: Err(Refusal::PageNo),
-                next: self,
-            };
-        }
-        if k == count {
-            return Step {
-                answer: Ok(Answer::Finished),
-                next: self,
-            };
-        }
-        pass(h, table, image, map, k)
-    }
-}
-
-// Page k is signed once: its bytes go into the image and its signature into the entry, if it is not there already.
-fn pass(h: Header, table: &[u8], image: &mut [u8], map: &mut [u8], k: usize) -> Step
-    requires { (reading map.old ≡ Ok h) × (length table.now ≡ h.bucket.count) × (length image.old ≡ h.bucket.count) × (k < header_pages h) }
-    ensures { stepped_of result image.new map.new ≡ passing h table.now image.old map.old k }
-{
-    let up = k + 1;
-    let next = Place { page: up };
-    let page = map::page_at(h.page, table, k);
-    let own = signature::own(h.n, page);
-    let entry = map::entry_at(h.n, map, k);
-    if backup::same(own, entry.signature) {
-        return Step {
-            answer: Ok(Answer::Kept(k)),
-            next,
-        };
-    }
-    let at = k * h.page.count;
-    units::put_part(page, image, at);
-    map::put_entry(
-        Entry {
-            tag: 4,
-            signature: own,
-        },
-        map,
-        k,
-    );
-    Step {
-        answer: Ok(Answer::Written(k)),
-        next,
     }
 }
 
@@ -119,38 +74,120 @@ pub fn store(
         Bytes { count: image.len() },
         map,
     )?;
-    store_on(h, table, image, map, list)
+    let mut backup = Open {
+        h,
+        table,
+        image,
+        map,
+    };
+    backup.store(list)
 }
 
-// The same on a backup that was opened: step by step, until one says that the store is finished.
-#[tactic(auto, using(crate::proofs::Underway::no_room))]
-fn store_on(
+// A backup that was opened, with the table that it is to hold.
+// Made where it is used: a function that opens and makes it has no clause for image and map where opening refuses.
+#[derive(Drop)]
+struct Open<'a> {
     h: Header,
-    table: &[u8],
-    image: &mut [u8],
-    map: &mut [u8],
-    list: &mut [usize],
-) -> Result<usize, Refusal>
-    requires { (reading map.old ≡ Ok h) × (length table.now ≡ h.bucket.count) × (length image.old ≡ h.bucket.count) }
-    ensures { stored_of result image.new map.new list.new ≡ open_store h table.now image.old map.old list.old }
-{
-    let count = map::pages(h);
-    if list.len() < count {
-        return Err(Refusal::Room(count));
+    table: &'a [u8],
+    image: &'a mut [u8],
+    map: &'a mut [u8],
+    // a slice's elements are bytes by its type, a field's are where this says so
+    ghost table_octets: { Octets table.now },
+    ghost map_octets: { Octets map.now },
+    ghost holds: { reading map.now ≡ Ok h },
+    ghost table_length: { length table.now ≡ h.bucket.count },
+    ghost image_length: { length image.now ≡ h.bucket.count },
+}
+
+impl<'a> Open<'a> {
+    ghost use Rattle.store.specs.Opens.{IsAsOpened};
+
+    // The page at the place is passed, unless the place is at the end of the pages or above it.
+    fn step(&mut self, place: Place) -> Step
+        ensures same_backup { IsAsOpened self.old self.new }
+        ensures stepped { stepped_of result self.new.image.now self.new.map.now ≡ open_step self.old.h self.old.table.now self.old.image.now self.old.map.now place }
+    {
+        let k = place.page;
+        let count = map::pages(self.h);
+        if k > count {
+            return Step {
+                answer: Err(Refusal::PageNo),
+                next: place,
+            };
+        }
+        if k == count {
+            return Step {
+                answer: Ok(Answer::Finished),
+                next: place,
+            };
+        }
+        self.pass(k)
     }
-    let mut place = Place { page: 0 };
-    let mut found: usize = 0;
-    loop {
-        let step = place.step_on(h, table, image, map);
-        let answer = step.answer?;
-        place = step.next;
-        match answer {
-            Answer::Kept(_) => {}
-            Answer::Written(k) => {
-                list[found] = k;
-                found += 1;
+
+    // A method, since `self.map` lent from a `&mut self` comes back with its length alone known.
+    fn entry(&self, k: usize) -> Entry
+        ensures { result ≡ entry_at self.now.h.n self.now.map.now k }
+    {
+        map::entry_at(self.h.n, self.map, k)
+    }
+
+    // Page k is signed once: its bytes go into the image and its signature into the entry, if it is not there already.
+    fn pass(&mut self, k: usize) -> Step
+        requires { k < header_pages self.old.h }
+        ensures same_backup { IsAsOpened self.old self.new }
+        ensures passed { stepped_of result self.new.image.now self.new.map.now ≡ passing self.old.h self.old.table.now self.old.image.now self.old.map.now k }
+    {
+        let up = k + 1;
+        let next = Place { page: up };
+        let page = map::page_at(self.h.page, self.table, k);
+        let own = signature::own(self.h.n, page);
+        let entry = self.entry(k);
+        if backup::same(own, entry.signature) {
+            return Step {
+                answer: Ok(Answer::Kept(k)),
+                next,
+            };
+        }
+        let at = k * self.h.page.count;
+        units::put_part(page, self.image, at);
+        map::put_entry(
+            Entry {
+                tag: 4,
+                signature: own,
+            },
+            self.map,
+            k,
+        );
+        Step {
+            answer: Ok(Answer::Written(k)),
+            next,
+        }
+    }
+
+    // Step by step, until one says that the store is finished.
+    #[tactic(auto, using(crate::proofs::Underway::no_room))]
+    fn store(&mut self, list: &mut [usize]) -> Result<usize, Refusal>
+        ensures same_backup { IsAsOpened self.old self.new }
+        ensures stored { stored_of result self.new.image.now self.new.map.now list.new ≡ open_store self.old.h self.old.table.now self.old.image.now self.old.map.now list.old }
+    {
+        let count = map::pages(self.h);
+        if list.len() < count {
+            return Err(Refusal::Room(count));
+        }
+        let mut place = Place { page: 0 };
+        let mut found: usize = 0;
+        loop {
+            let step = self.step(place);
+            let answer = step.answer?;
+            place = step.next;
+            match answer {
+                Answer::Kept(_) => {}
+                Answer::Written(k) => {
+                    list[found] = k;
+                    found += 1;
+                }
+                Answer::Finished => return Ok(found),
             }
-            Answer::Finished => return Ok(found),
         }
     }
 }

@@ -12,8 +12,8 @@ use Rattle.load.specs.Loads.{loading, open_load, bucket_tests}
 use Rattle.load.proofs.load_bucket.Goals as goal
 use Rattle.std.specs.Prelude.{Err}
 
-pub move_bucket-requires : goal.move_bucket-requires
-move_bucket-requires c =
+pub move_to-requires : goal.move_to-requires
+move_to-requires c =
     let opens : _ = c.«open» in
     let u : Usable _ _ _ c.in_ok-h.h = open_usable _ _ _ _ (sym opens.ensures ∙ c.in_ok-h.was) in
     u.other_fits ∙ sym u.one_fits
@@ -33,6 +33,6 @@ unfolding loading open_load
 returns c =
     let opens : _ = c.«open» in
     let args : _ = c.args in
-    c.move_bucket.ensures
+    c.move_to.ensures
     ∙ sym (opened_as (λ v (g : Header). outcome v (length args.image.now) args.image.now args.table.now)
     (λ g. bucket_tests g args.image.now args.map.now) _ _ _ _ (sym opens.ensures ∙ c.in_ok-h.was))

@@ -1,8 +1,8 @@
--- `load::whole` meets its contract: the page's own signature is held against its entry's.
+-- `load::Open::whole` meets its contract: the page's own signature is held against its entry's.
 -- Assumes nothing.
 use mathlib.Core.Path.{sym}
 use Rattle.backup.proofs.Sameness.{agrees_by}
-use Rattle.load.proofs.whole.Goals as goal
+use Rattle.load.proofs.Open.whole.Goals as goal
 
 pub returns : goal.returns
 returns c =
