@@ -2,7 +2,7 @@
 -- Assumes nothing.
 use mathlib.Core.Path.{◌≡◌, sym, ap, ◌∙◌}
 use mathlib.Core.List.{List, [], ◌∷◌}
-use Prim.Native.Nat.{ℕ, ◌+◌, ◌-◌, ◌*◌, ◌<◌}
+use Prim.Native.Nat.{ℕ, ◌+◌, ◌-◌, ◌*◌}
 use native.Mathlib.Omega.{arith}
 use lib.ListN.{length, get_or}
 use borrow.Rule.Slice.PartMut.{put_mid}
@@ -10,16 +10,13 @@ use Rattle.units.specs.Writing.{written}
 use Rattle.signature.specs.Signatures.{handed}
 use Rattle.signature.specs.Objects.{low_bytes}
 use Rattle.signature.proofs.Numbers.{low_bytes_length}
-use Rattle.map.specs.Files.{components, entry, place, entry_bytes}
+use Rattle.map.specs.Files.{components, entry, place}
 use Rattle.map.proofs.Tagging.{part_written, tagged_written, components_length, entry_put_lem, entry_not_put}
 use Rattle.map.proofs.making.put_entry.Goals as goal
-use Rattle.map.proofs.making.put_entry.Goals.{then-room-lt3-via-then-room-lt3, then-room-lt3-via-else-room-lt3+then-s-room}
 
 pub returns-then-room-lt3 : goal.returns-then-room-lt3
 returns-then-room-lt3 c =
-    let short : length c.args.map.now < place c.args.e.signature.n c.args.k + entry_bytes c.args.e.signature.n =
-    elim c.then-room-lt3.branch [ then-room-lt3-via-then-room-lt3 w ↦ omega (arith, c.place_within-at.ensures) | then-room-lt3-via-else-room-lt3+then-s-room w ↦ omega (arith, c.place_within-at.ensures) ] in
-    sym (entry_not_put c.args.e c.args.map.now c.args.k short)
+    sym (entry_not_put c.args.e c.args.map.now c.args.k (grind (arith, c.place_within-at.ensures, c.then-room-lt3.branch)))
 
 pub returns : goal.returns
 unfolding entry low_bytes
