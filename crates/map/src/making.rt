@@ -59,6 +59,7 @@ pub fn component(s: Signature, j: usize) -> u16
     }
 }
 
+// By index: nothing is known of what the output holds after a loop over its `chunks_exact_mut`.
 fn put_components(s: Signature, output: &mut [u8])
     requires { length output.old ≡ 2 * s.n }
     ensures { output.new ≡ file_components s.n (handed s) }

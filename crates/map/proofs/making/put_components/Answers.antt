@@ -33,19 +33,18 @@ unfolding low_bytes
 loop-j-preserved c =
     let at : _ = c.loop-j in
     let f : ℕ → List ℕ = λ i. low_bytes 2 (handed c.args.s i) in
+    let to : ℕ = 2 * at.j in
     let m : ℕ = c.args.s.n - (at.j + 1) in
     let up : c.args.s.n - at.j ≡ suc m = omega arith in
-    let on : 2 * (at.j + 1) ≡ 2 * at.j + 2 = omega arith in
-    let two : 2 * at.j + 2 - 2 * at.j ≡ length (f (at.j + 1)) = omega (arith, low_bytes_length 2 (handed c.args.s (at.j + 1))) in
-    let put : put_mid (2 * at.j) (2 * at.j + 2 - 2 * at.j) at.output c.copy_from_slice.new.self ≡ written at.output (2 * at.j) (f (at.j + 1)) =
-    part_written at.output c.copy_from_slice.new.self (f (at.j + 1)) (2 * at.j) (2 * at.j + 2 - 2 * at.j)
-    (c.copy_from_slice.ensures.after ∙ c.to_le_bytes.ensures ∙ ap (low_bytes 2) c.component.ensures) two in
-    let fits : 2 * at.j + suc m * 2 ≤ length at.output = omega (arith, at.invariant.1) in (
+    let on : 2 * (at.j + 1) ≡ to + 2 = omega arith in
+    let put : put_mid to (to + 2 - to) at.output c.copy_from_slice.new.self ≡ written at.output to (f (at.j + 1)) =
+    part_written at.output _ (f (at.j + 1)) to _ (c.copy_from_slice.ensures.after ∙ c.to_le_bytes.ensures ∙ ap (low_bytes 2) c.component.ensures) (omega arith) in
+    let fits : to + suc m * 2 ≤ length at.output = omega (arith, at.invariant.1) in (
       ap₂ (λ (l : List ℕ) (k : ℕ). written l k (end_to_end f (at.j + 1 + 1) m)) put on
-          ∙ ap (λ (k : ℕ). written (written at.output (2 * at.j) (f (at.j + 1))) (2 * at.j + 2) (end_to_end f k m)) (add-one (at.j + 1))
-          ∙ run_turn f 2 (λ i. low_bytes_length 2 (handed c.args.s i)) at.output (2 * at.j) m (at.j + 1) fits
-          ∙ ap (λ (k : ℕ). written at.output (2 * at.j) (end_to_end f (at.j + 1) k)) (sym up) ∙ at.invariant.0,
-      ap length put ∙ written_length at.output (2 * at.j) (f (at.j + 1)) (omega (arith, at.invariant.1, low_bytes_length 2 (handed c.args.s (at.j + 1)))) ∙ at.invariant.1,
+          ∙ ap (λ (k : ℕ). written (written at.output to (f (at.j + 1))) (to + 2) (end_to_end f k m)) (add-one (at.j + 1))
+          ∙ run_turn f 2 (λ i. low_bytes_length 2 (handed c.args.s i)) at.output to m (at.j + 1) fits
+          ∙ ap (λ (k : ℕ). written at.output to (end_to_end f (at.j + 1) k)) (sym up) ∙ at.invariant.0,
+      ap length put ∙ written_length at.output to (f (at.j + 1)) (omega arith) ∙ at.invariant.1,
     )
 
 pub returns : goal.returns
