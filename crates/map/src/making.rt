@@ -1,12 +1,11 @@
-// Pages of a bucket, and what is written of a map: numbers, fields, one entry, and the whole map.
-ghost use Rattle.std.specs.Prelude.{◌≡◌, ◌∷◌, ◌+◌, ◌*◌, ◌≤◌, length};
+// Pages of a bucket, and what is written of a map: the header, one entry, and the whole map.
+ghost use Rattle.std.specs.Prelude.{◌≡◌, ◌*◌, ◌≤◌, length};
 ghost use Rattle.units.specs.Writing.{written};
 ghost use Rattle.units.specs.Filling.{outcome_of};
 ghost use Rattle.signature.specs.Signatures.{handed};
-ghost use Rattle.signature.specs.Objects.{low_bytes};
 ghost use Rattle.map.specs.Buckets.{page_at};
-ghost use Rattle.map.specs.Files.{tagged, entries, entry_put, file_bytes};
-ghost use Rattle.map.specs.Files.{header as file_header, components as file_components, entry as file_entry, pages as header_pages};
+ghost use Rattle.map.specs.Files.{entries, entry_put, file_bytes};
+ghost use Rattle.map.specs.Files.{header as file_header, components as file_components, pages as header_pages};
 ghost use Rattle.map.specs.Making.{made_entry, making};
 
 use crate::{Entry, HEADER_BYTES, Header, pages, place_within};
