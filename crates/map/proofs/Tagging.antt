@@ -1,10 +1,12 @@
 -- Tagged fields as bytes: how long they are, and that tag with length, and then the value, written one after the other, are the field.
 -- Assumes nothing.
-use mathlib.Core.Path.{◌≡◌, sym, ap, ◌∙◌}
+use mathlib.Core.Path.{◌≡◌, sym, ap, ap₂, ◌∙◌}
 use mathlib.Core.List.{List, ◌∷◌, ◌++◌}
 use Prim.Native.Nat.{ℕ, suc, ◌+◌, ◌*◌, ◌≤◌, ◌<◌}
 use native.Mathlib.Omega.{arith}
-use lib.ListN.{length, length-append}
+use lib.ListN.{length, take, drop, length-append}
+use lib.Seq.{drop-drop}
+use borrow.Rule.Slice.PartMut.{put_mid}
 use borrow.Author.Tests.{le-leb, lt-leb}
 use Rattle.units.specs.Writing.{written}
 use Rattle.units.proofs.Writing.{written_append}
@@ -15,6 +17,12 @@ use Rattle.signature.proofs.Numbers.{low_bytes_length}
 use Rattle.map.specs.Files.{tagged, header, components, entry, entry_put, entry_bytes, place}
 use Rattle.map.specs.declared.Header.{Header}
 use Rattle.map.specs.declared.Entry.{Entry}
+
+-- what the part of a slice holds by now, put back where the part begins
+pub part_written : (old part new : List ℕ) (at size : ℕ) → part ≡ new → size ≡ length new → put_mid at size old part ≡ written old at new
+unfolding written
+part_written old part new at size same long =
+    ap₂ (λ (p q : List ℕ). take at old ++ (p ++ q)) same (drop-drop size at old ∙ ap (λ (k : ℕ). drop (at + k) old) long)
 
 pub tagged_length : (tag : ℕ) (value : List ℕ) → length (tagged tag value) ≡ 3 + length value
 unfolding tagged

@@ -1,12 +1,11 @@
-// Pages of a bucket, and what is written of a map: numbers, fields, one entry, and the whole map.
-ghost use Rattle.std.specs.Prelude.{◌≡◌, ◌∷◌, ◌+◌, ◌*◌, ◌≤◌, length};
+// Pages of a bucket, and what is written of a map: the header, one entry, and the whole map.
+ghost use Rattle.std.specs.Prelude.{◌≡◌, ◌*◌, ◌≤◌, length};
 ghost use Rattle.units.specs.Writing.{written};
 ghost use Rattle.units.specs.Filling.{outcome_of};
 ghost use Rattle.signature.specs.Signatures.{handed};
-ghost use Rattle.signature.specs.Objects.{low_bytes};
 ghost use Rattle.map.specs.Buckets.{page_at};
-ghost use Rattle.map.specs.Files.{tagged, entries, entry_put, file_bytes};
-ghost use Rattle.map.specs.Files.{header as file_header, components as file_components, entry as file_entry, pages as header_pages};
+ghost use Rattle.map.specs.Files.{entries, entry_put, file_bytes};
+ghost use Rattle.map.specs.Files.{header as file_header, components as file_components, pages as header_pages};
 ghost use Rattle.map.specs.Making.{made_entry, making};
 
 use crate::{Entry, HEADER_BYTES, Header, pages, place_within};
@@ -32,39 +31,18 @@ pub fn page_at<'a>(page: Bytes, bucket: &'a [u8], k: usize) -> &'a [u8]
     &bucket[start..]
 }
 
-fn put_four_bytes(x: usize, output: &mut [u8], at: usize)
-    requires { at + 4 ≤ length output.old }
-    ensures { output.new ≡ written output.old at (low_bytes 4 x) }
+// The three fields before the first entry: of each the tag, the length of its value, and the value.
+fn header(h: Header) -> [u8; HEADER_BYTES]
+    ensures { result ≡ file_header h }
 {
-    signature::put_two_bytes(x, output, at);
-    signature::put_two_bytes(x / 65536, output, at + 2);
-}
-
-fn put_tag(tag: u8, size: usize, output: &mut [u8], at: usize)
-    requires { at + 3 ≤ length output.old }
-    ensures { output.new ≡ written output.old at (tag ∷ low_bytes 2 size) }
-{
-    output[at] = tag;
-    signature::put_two_bytes(size, output, at + 1);
-}
-
-// A field whose value is a number of four bytes.
-fn put_number(tag: u8, x: usize, output: &mut [u8], at: usize)
-    requires { at + 7 ≤ length output.old }
-    ensures { output.new ≡ written output.old at (tagged tag (low_bytes 4 x)) }
-{
-    put_tag(tag, 4, output, at);
-    put_four_bytes(x, output, at + 3);
-}
-
-fn put_header(h: Header, output: &mut [u8])
-    requires { 18 ≤ length output.old }
-    ensures { output.new ≡ written output.old 0 (file_header h) }
-{
-    put_tag(1, 1, output, 0);
-    output[3] = (h.n % 256) as u8;
-    put_number(2, h.page.count, output, 4);
-    put_number(3, h.bucket.count, output, 11);
+    let [n, ..] = h.n.to_le_bytes();
+    let [p0, p1, p2, p3, ..] = h.page.count.to_le_bytes();
+    let [b0, b1, b2, b3, ..] = h.bucket.count.to_le_bytes();
+    [
+        1, 1, 0, n, // components
+        2, 4, 0, p0, p1, p2, p3, // bytes of a page
+        3, 4, 0, b0, b1, b2, b3, // bytes of the bucket
+    ]
 }
 
 // Component j of a signature as it is handed over.
@@ -80,12 +58,13 @@ pub fn component(s: Signature, j: usize) -> u16
     }
 }
 
-fn put_components(s: Signature, output: &mut [u8], at: usize)
-    requires { at + 2 * s.n ≤ length output.old }
-    ensures { output.new ≡ written output.old at (file_components s.n (handed s)) }
+// By index: nothing is known of what the output holds after a loop over its `chunks_exact_mut`.
+fn put_components(s: Signature, output: &mut [u8])
+    requires { length output.old ≡ 2 * s.n }
+    ensures { output.new ≡ file_components s.n (handed s) }
 {
     for j in 0..s.n {
-        signature::put_two_bytes(usize::from(component(s, j + 1)), output, at + 2 * j);
+        output[2 * j..2 * j + 2].copy_from_slice(&component(s, j + 1).to_le_bytes());
     }
 }
 
@@ -96,14 +75,13 @@ pub fn put_entry(e: Entry, map: &mut [u8], k: usize)
     let s = e.signature;
     let at = place_within(s.n, k, map.len());
     let room = map.len() - at;
-    if room < 3 {
+    if room < 3 || s.n > (room - 3) / 2 {
         return;
     }
-    if s.n > (room - 3) / 2 {
-        return;
-    }
-    put_tag(e.tag, 2 * s.n, map, at);
-    put_components(s, map, at + 3);
+    let value = at + 3;
+    let [low, high, ..] = (2 * s.n).to_le_bytes();
+    map[at..value].copy_from_slice(&[e.tag, low, high]);
+    put_components(s, &mut map[value..value + 2 * s.n]);
 }
 
 // The entry that a map made from the bucket has for page k.
@@ -151,7 +129,7 @@ pub fn make(n: usize, page: Bytes, bucket: &[u8], output: &mut [u8]) -> Result<B
         page,
         bucket: all,
     };
-    put_header(h, output);
+    output[..HEADER_BYTES].copy_from_slice(&header(h));
     put_entries(h, bucket, output);
     Ok(Bytes { count: needed })
 }

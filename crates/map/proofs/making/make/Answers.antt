@@ -13,11 +13,12 @@ use Rattle.units.specs.Writing.{written}
 use Rattle.units.specs.Sizes.{n_allowed, page_allowed, bucket_allowed}
 use Rattle.units.specs.Counts.{pages_in}
 use Rattle.map.specs.Making.{making, needed, made, made_header, made_entry}
-use Rattle.map.specs.Files.{place, entries}
+use Rattle.map.specs.declared.Header.{Header}
+use Rattle.map.specs.Files.{place, header, entries}
 use Rattle.map.proofs.MadeMaps.{file_written}
 use Rattle.map.proofs.Contents.{Sized}
+use Rattle.map.proofs.Tagging.{part_written, header_length}
 use Rattle.map.proofs.making.make.Goals as goal
-use Rattle.std.specs.Prelude.{Err}
 use Rattle.units.specs.declared.Refusal.{Refusal}
 
 -- no size test applies
@@ -75,18 +76,18 @@ returns-then-output-needed c =
 pub returns : goal.returns
 unfolding making
 returns c =
-    let pages-of : _ = c.pages_of-count in
-    let if4 : _ = c.if-output-needed in
-    let put-header : _ = c.put_header in
-    let put_entries : _ = c.put_entries in
     let args : _ = c.args in
-    let fits : Sized (made_header args.n args.page.count args.bucket.now) = sized_at args.bucket.now c.n_allowed.ensures c.if-not-n_allowed.false c.page_allowed.ensures c.if-not-page_allowed.false c.pages_of-count.ensures c.bucket_allowed.ensures c.if-not-bucket_allowed.false in
-    let size : place args.n pages-of.result ≡ needed args.n args.page.count args.bucket.now = ap (place args.n) pages-of.ensures in
-    let enough : needed args.n args.page.count args.bucket.now ≤ length args.output.now = omega (arith, if4.false) in
-    let all : put_entries.new.output ≡ written args.output.now 0 (made args.n args.page.count args.bucket.now) =
-    put_entries.ensures
-    ∙ ap (λ (l : List ℕ). written l 18 (entries (made_entry args.n args.page.count args.bucket.now) 0 (pages_in args.page.count (length args.bucket.now))))
-    put-header.ensures
-    ∙ file_written args.n args.page.count args.bucket.now args.output.now enough in
+    let n : ℕ = args.n in
+    let page : ℕ = args.page.count in
+    let bucket : List ℕ = args.bucket.now in
+    let h : Header = made_header n page bucket in
+    let fits : Sized h = sized_at bucket c.n_allowed.ensures c.if-not-n_allowed.false c.page_allowed.ensures c.if-not-page_allowed.false c.pages_of-count.ensures c.bucket_allowed.ensures c.if-not-bucket_allowed.false in
+    let size : place n c.pages_of-count.result ≡ needed n page bucket = ap (place n) c.pages_of-count.ensures in
+    let enough : needed n page bucket ≤ length args.output.now = omega (arith, c.if-output-needed.false) in
+    let all : c.put_entries.new.output ≡ written args.output.now 0 (made n page bucket) =
+    c.put_entries.ensures
+    ∙ ap (λ (l : List ℕ). written l 18 (entries (made_entry n page bucket) 0 (pages_in page (length bucket))))
+    (part_written args.output.now _ (header h) 0 _ (c.copy_from_slice.ensures.after ∙ c.header.ensures) (sym (header_length h)))
+    ∙ file_written n page bucket args.output.now enough in
     simp (fits.n_fits, fits.page_fits, fits.bucket_fits, le-ltb _ _ enough)
     (ap₂ (λ (k : ℕ) (l : List ℕ). outcome_of (Ok (record { count = k })) l) size all)

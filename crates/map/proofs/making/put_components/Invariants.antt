@@ -12,5 +12,5 @@ use Rattle.map.proofs.making.put_components.Given as goal
 
 abbrev pub invariant-loop-j : goal.invariant-loop-j
 invariant-loop-j l =
-    (written l.output (l.at + 2 * l.j) (end_to_end (λ i. low_bytes 2 (handed l.s i)) (l.j + 1) (l.s.n - l.j)) ≡ written l.initial.output l.at (components l.s.n (handed l.s)))
-    × (length l.output ≡ length l.initial.output)
+    (written l.output (2 * l.j) (end_to_end (λ i. low_bytes 2 (handed l.s i)) (l.j + 1) (l.s.n - l.j)) ≡ components l.s.n (handed l.s))
+    × (length l.output ≡ 2 * l.s.n)
