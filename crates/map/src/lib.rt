@@ -58,7 +58,7 @@ impl From<Break> for Refusal {
     }
 }
 
-// Past the map's end there are zeros.
+// Past the map's end there are zeros. Bytes and a place here and in the three below, and no `Reader`: each place is given by the format, and none follows from a call before.
 fn four_bytes(map: &[u8], at: usize) -> usize
     requires { at + 3 < 2 ^ 64 }
     ensures { result ≡ low_first 4 map.now at }

@@ -180,7 +180,7 @@ fn put_symbol(x: u16, page: &mut [u8], i: Symbols)
 {
     let at = units::bytes_of(i).count;
     if page.len() - at > 1 {
-        signature::put_two_bytes(x as usize, page, at);
+        signature::put_two_bytes(usize::from(x), page, at);
         return;
     }
     page[at] = (x % 256) as u8;

@@ -1,6 +1,6 @@
 -- `repair::put_symbol` meets its contract: both bytes, or the one that the page has.
 -- Assumes nothing.
-use mathlib.Core.Path.{◌≡◌, ap, ◌∙◌}
+use mathlib.Core.Path.{◌≡◌, ap, ◌∙◌, ap₂}
 use Prim.Native.Nat.{ℕ, ◌-◌, ◌*◌, ◌%◌, ◌≤◌, ◌<◌}
 use native.Mathlib.Omega.{arith}
 use lib.ListN.{length, set}
@@ -15,7 +15,7 @@ returns-then-page-at-gt1 c =
     let inside : _ = c.requires in
     let at : c.bytes_of-at.result.count ≡ args.i.count * 2 = omega (arith, c.bytes_of-at.ensures) in
     let room : 1 < length args.page.now - args.i.count * 2 = omega arith in
-    c.put_two_bytes.ensures ∙ ap (part_put (low_bytes 2 args.x) args.page.now) at
+    c.put_two_bytes.ensures ∙ ap₂ (λ (x k : ℕ). part_put (low_bytes 2 x) args.page.now k) c.from.ensures at
     ∙ put_both args.page.now args.i.count args.x inside room
 
 pub returns : goal.returns
