@@ -3,10 +3,12 @@
 
 ghost use Rattle.std.specs.Prelude.{◌≡◌, length};
 ghost use Rattle.units.specs.Filling.{outcome_of};
+ghost use Rattle.units.specs.Naming.{lowest_named};
+ghost use Rattle.map.specs.Files.{pages as header_pages};
 ghost use Rattle.map.specs.Reading.{header_of, entry_at};
 ghost use Rattle.backup.specs.Openings.{opened};
 ghost use Rattle.backup.specs.Backups.{agrees};
-ghost use Rattle.load.specs.Loads.{asking, loaded_page, lowest_damaged, open_load, loading};
+ghost use Rattle.load.specs.Loads.{asking, loaded_page, damaged, open_load, loading};
 
 use map::Header;
 use units::{Bytes, Refusal};
@@ -76,17 +78,16 @@ impl<'a> Open<'a> {
         backup::same(own, entry.signature)
     }
 
-    // The lowest page that is not, and the page count if all are.
-    fn lowest_damaged(&self) -> usize
-        ensures { result ≡ lowest_damaged self.now.h self.now.image.now self.now.map.now }
+    // The lowest page that is not.
+    fn lowest_damaged(&self) -> Option<usize>
+        ensures { result ≡ lowest_named (damaged self.now.h self.now.image.now self.now.map.now) (header_pages self.now.h) }
     {
-        let count = map::pages(self.h);
-        for k in 0..count {
+        for k in 0..map::pages(self.h) {
             if !self.whole(k) {
-                return k;
+                return Some(k);
             }
         }
-        count
+        None
     }
 
     // All of the image, when no page is damaged.
@@ -94,8 +95,7 @@ impl<'a> Open<'a> {
         requires { length self.now.image.now ≡ length table.old }
         ensures { outcome_of result table.new ≡ open_load self.now.h self.now.image.now self.now.map.now table.old }
     {
-        let k = self.lowest_damaged();
-        if k < map::pages(self.h) {
+        if let Some(k) = self.lowest_damaged() {
             return Err(Refusal::Damaged(k));
         }
         table.copy_from_slice(self.image);

@@ -2,7 +2,7 @@
 #![tactic(auto)]
 
 ghost use Rattle.std.specs.Prelude.{◌≡◌, false, ◌<◌, eqb, length, Ok};
-ghost use Rattle.units.specs.Naming.{first_named};
+ghost use Rattle.units.specs.Naming.{lowest_named};
 ghost use Rattle.field.specs.Field.{GF16, α};
 ghost use Rattle.field.specs.Field.{product as field_product, power as field_power};
 ghost use Rattle.signature.specs.Kinds.{wide};
@@ -110,10 +110,9 @@ impl<'a> Signed<'a> {
     {
         let d = field::sum(self.own.s1, self.s.s1);
         let count = signature::symbols_in(self.page).count;
-        let i = power_between(d, field::sum(self.own.s2, self.s.s2), count);
-        if i >= count {
+        let Some(i) = power_between(d, field::sum(self.own.s2, self.s.s2), count) else {
             return Repair::Beyond;
-        }
+        };
         let position = Symbols { count: i };
         let old = signature::symbol(self.page, position);
         let new = field::sum(old, field::times_power(d, units::exponent_back(position)));
@@ -145,18 +144,18 @@ impl<'a> Signed<'a> {
     }
 }
 
-// The lowest i below m for which a · α^i is b; m if there is none.
-fn power_between(a: u16, b: u16, m: usize) -> usize
-    ensures { result ≡ first_named (λ i. eqb (field_product GF16 a (field_power GF16 α i)) b) m 0 }
+// The lowest i below m for which a · α^i is b.
+fn power_between(a: u16, b: u16, m: usize) -> Option<usize>
+    ensures { result ≡ lowest_named (λ i. eqb (field_product GF16 a (field_power GF16 α i)) b) m }
 {
     let mut x = a;
     for i in 0..m {
         if x == b {
-            return i;
+            return Some(i);
         }
         x = field::double(x);
     }
-    m
+    None
 }
 
 // Whether the page holds all of x in the place of symbol i: the byte that completes a page is zero.
@@ -183,5 +182,6 @@ fn put_symbol(x: u16, page: &mut [u8], i: Symbols)
         signature::put_two_bytes(usize::from(x), page, at);
         return;
     }
-    page[at] = (x % 256) as u8;
+    let [low, _] = low_bytes(x);
+    page[at] = low;
 }

@@ -13,7 +13,7 @@ ghost use Rattle.signature.specs.Operations.{own as object_own, signing, joining
 
 use units::{Bytes, Refusal, Symbols};
 
-// n and four components. Those above n are ignored on entry, and zero in every answer.
+// n and four components, by name and in no array: `handed` and `answered`, over which all is promised, have these fields. Those above n are ignored on entry, and zero in every answer.
 #[derive(Clone, Copy, Debug, PartialEq, Eq, Hash)]
 pub struct Signature {
     pub n: usize,
@@ -184,11 +184,17 @@ fn component_added(n: usize, j: usize, x: u16, at: Symbols, y: u16) -> u16
 pub fn symbol(object: &[u8], at: Symbols) -> u16
     ensures { result ≡ object_symbol 2 object.now at.count }
 {
-    two_bytes(object, units::bytes_of(at).count) as u16
+    pair(object, units::bytes_of(at).count)
 }
 
 // The number that two bytes make, low byte first. Past the end there are zeros.
 pub fn two_bytes(object: &[u8], at: usize) -> usize
+    ensures { result ≡ low_first 2 object.now at }
+{
+    usize::from(pair(object, at))
+}
+
+fn pair(object: &[u8], at: usize) -> u16
     ensures { result ≡ low_first 2 object.now at }
 {
     if at >= object.len() {
@@ -197,7 +203,7 @@ pub fn two_bytes(object: &[u8], at: usize) -> usize
     let second = at + 1;
     let low = byte(object, Bytes { count: at });
     let high = byte(object, Bytes { count: second });
-    usize::from(u16::from_le_bytes([low, high]))
+    u16::from_le_bytes([low, high])
 }
 
 // The byte at a place, and zero past the end.
@@ -214,6 +220,7 @@ pub fn put_two_bytes(x: usize, output: &mut [u8], at: usize)
     if output.len() < 2 || at > output.len() - 2 {
         return;
     }
-    output[at] = (x % 256) as u8;
-    output[at + 1] = (x / 256 % 256) as u8;
+    let [low, high, ..] = x.to_le_bytes();
+    output[at] = low;
+    output[at + 1] = high;
 }

@@ -2,12 +2,15 @@
 -- Assumes nothing.
 use mathlib.Core.Path.{◌≡◌, refl, sym, ap, ◌∙◌}
 use mathlib.Core.Logic.{dite}
-use mathlib.Core.Bool.{Bool, true, false}
+use mathlib.Core.Bool.{Bool, true, false, cond}
+use lib.Dec.{ltb}
 use Prim.Native.Nat.{ℕ, zero, suc, ◌+◌, ◌-◌, ◌≤◌, ◌<◌}
 use native.Mathlib.Numerals.{add-one}
 use native.Mathlib.Decide.{dec_lt, ℕ_discrete}
 use native.Mathlib.Omega.{arith}
-use Rattle.units.specs.Naming.{first_named}
+use borrow.Author.Tests.{lt-ltb, le-ltb, ltb-true, ltb-false}
+use Rattle.std.specs.Prelude.{Option, Some, None}
+use Rattle.units.specs.Naming.{first_named, lowest_named}
 use Rattle.units.proofs.Refusing.{not_both}
 
 module _ (test : ℕ → Bool) where
@@ -63,3 +66,43 @@ module _ (test : ℕ → Bool) where
 
   pub turn_ends : (left k : ℕ) → left ≤ 0 → first_named test left k ≡ k
   turn_ends left k none = let is : left ≡ 0 = omega arith in ap (λ (m : ℕ). first_named test m k) is ∙ first_none k
+
+  -- ---- a loop over the numbers below m, upward: it finds the lowest, goes on, and ends without one
+
+  pub upward_finds : (m k : ℕ) → k < m → first_named test (m - k) k ≡ first_named test m 0 → test k ≡ true → Some k ≡ lowest_named test m
+  upward_finds m k below so_far e =
+      let is : first_named test m 0 ≡ k = sym so_far ∙ turn_finds (m - k) k (omega arith) e in
+      let inside : first_named test m 0 < m = omega arith in
+      ap Some (sym is) ∙ sym (simp (lt-ltb _ _ inside))
+
+  pub upward_goes_on : (m k : ℕ) → k < m → first_named test (m - k) k ≡ first_named test m 0 → test k ≡ false
+      → first_named test (m - (k + 1)) (k + 1) ≡ first_named test m 0
+  upward_goes_on m k below so_far e =
+      let next : m - (k + 1) ≡ m - k - 1 = omega arith in
+      ap (λ (i : ℕ). first_named test i (k + 1)) next ∙ sym (turn_goes_on (m - k) k (omega arith) e) ∙ so_far
+
+  pub upward_ends : (m k : ℕ) → m ≤ k → first_named test (m - k) k ≡ first_named test m 0 → None ≡ lowest_named test m
+  upward_ends m k past so_far =
+      let out : m ≤ first_named test m 0 = omega (arith, so_far, turn_ends (m - k) k (omega arith)) in
+      sym (simp (le-ltb _ _ out))
+
+  -- what the answer tells
+
+  number_in : Option ℕ → ℕ
+  number_in (Some i) = i
+  number_in None = 0
+
+  pub lowest_some : (m i : ℕ) → lowest_named test m ≡ Some i → (i ≡ first_named test m 0) × (i < m)
+  unfolding number_in
+  lowest_some m i e = at (ltb (first_named test m 0) m) refl e
+    where
+      at : (b : Bool) → ltb (first_named test m 0) m ≡ b → cond b (Some (first_named test m 0)) None ≡ Some i → (i ≡ first_named test m 0) × (i < m)
+      at true so q = let is : first_named test m 0 ≡ i = ap number_in q in (sym is, omega (arith, ltb-true (first_named test m 0) m so))
+      at false so q = let z : ◌≡◌ {A = ℕ} 0 1 = cc in absurd (omega arith)
+
+  pub lowest_none : (m : ℕ) → lowest_named test m ≡ None → m ≤ first_named test m 0
+  lowest_none m e = at (ltb (first_named test m 0) m) refl e
+    where
+      at : (b : Bool) → ltb (first_named test m 0) m ≡ b → cond b (Some (first_named test m 0)) None ≡ None → m ≤ first_named test m 0
+      at true so q = let z : ◌≡◌ {A = ℕ} 0 1 = cc in absurd (omega arith)
+      at false so q = omega (arith, ltb-false (first_named test m 0) m so)

@@ -1,5 +1,5 @@
 -- The numbers that a test names, in order, and what is answered by an operation that lists them.
-use Rattle.std.specs.Prelude.{Bool, cond, List, [], ◌∷◌, ◌++◌, ℕ, zero, suc, ◌<◌, length, get_or, Result, Ok, Err}
+use Rattle.std.specs.Prelude.{Bool, cond, List, [], ◌∷◌, ◌++◌, ℕ, zero, suc, ◌<◌, length, get_or, ltb, Result, Ok, Err, Option, Some, None}
 use Rattle.units.specs.declared.Refusal.{Refusal}
 use Rattle.units.specs.Refusals.{Verdict, allowed, refused}
 
@@ -12,6 +12,10 @@ named test (suc m) = named test m ++ cond (test m) (m ∷ []) []
 unfoldable pub first_named : (ℕ → Bool) → ℕ → ℕ → ℕ
 first_named test zero k = k
 first_named test (suc m) k = cond (test k) k (first_named test m (suc k))
+
+-- the lowest below m that is named
+abbrev pub lowest_named : (ℕ → Bool) → ℕ → Option ℕ
+lowest_named test m = cond (ltb (first_named test m 0) m) (Some (first_named test m 0)) None
 
 -- each number is above those before it, so none stands twice
 abbrev pub Upward : List ℕ → Type 0

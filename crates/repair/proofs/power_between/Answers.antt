@@ -2,12 +2,12 @@
 -- Assumes nothing.
 use mathlib.Core.Path.{◌≡◌, sym, ap, ◌∙◌}
 use mathlib.Core.Bool.{true, false}
-use Prim.Native.Nat.{ℕ, ◌+◌, ◌-◌, ◌<◌}
+use Prim.Native.Nat.{ℕ, ◌-◌, ◌<◌}
 use Rattle.units.specs.Naming.{first_named}
 use native.Mathlib.Numerals.{add-one}
 use native.Mathlib.Omega.{arith}
 use borrow.Author.Tests.{eq-eqb, ne_eqb}
-use Rattle.units.proofs.First.{turn_finds, turn_goes_on, turn_ends}
+use Rattle.units.proofs.First.{upward_finds, upward_goes_on, upward_ends}
 use Rattle.field.specs.Field.{GF16, product, power, doubled, α}
 use Rattle.field.proofs.Instances.{GF16_formed}
 use Rattle.field.proofs.Powers.{power_zero, power_doubled}
@@ -27,27 +27,21 @@ returns-then-x-b c =
     let args : _ = c.args in
     let at : _ = c.loop-i in
     let so : makes args.a args.b at.i ≡ true = eq-eqb _ _ (sym at.invariant.0 ∙ c.if-x-b.true) in
-    sym (turn_finds (makes args.a args.b) (args.m - at.i) at.i (omega arith) so) ∙ at.invariant.1
+    upward_finds (makes args.a args.b) args.m at.i (omega arith) at.invariant.1 so
 
 pub loop-i-preserved : goal.loop-i-preserved
 loop-i-preserved c =
     let args : _ = c.args in
     let at : _ = c.loop-i in
     let not_yet : makes args.a args.b at.i ≡ false = ne_eqb _ _ (λ e. c.if-x-b.false (at.invariant.0 ∙ e)) in
-    let next : args.m - (at.i + 1) ≡ args.m - at.i - 1 = omega arith in
     let below : args.a < 65536 = omega arith in (
       c.double-x.ensures
           ∙ ap (doubled GF16) at.invariant.0
           ∙ sym (product_doubled GF16 GF16_formed (power GF16 α at.i) below)
           ∙ power_doubled GF16 GF16_formed at.i below
           ∙ ap (λ (k : ℕ). product GF16 args.a (power GF16 α k)) (sym (add-one at.i)),
-      ap (λ (m : ℕ). first_named (makes args.a args.b) m (at.i + 1)) next
-          ∙ sym (turn_goes_on (makes args.a args.b) (args.m - at.i) at.i (omega arith) not_yet) ∙ at.invariant.1,
+      upward_goes_on (makes args.a args.b) args.m at.i (omega arith) at.invariant.1 not_yet,
     )
 
 pub returns : goal.returns
-returns c =
-    let args : _ = c.args in
-    let at : _ = c.loop-i in
-    let end : at.i ≡ args.m = omega arith in
-    sym end ∙ sym (turn_ends (makes args.a args.b) (args.m - at.i) at.i (omega arith)) ∙ at.invariant.1
+returns c = upward_ends (makes c.args.a c.args.b) c.args.m c.loop-i.i (omega arith) c.loop-i.invariant.1

@@ -1,9 +1,10 @@
 -- `repair::put_symbol` meets its contract: both bytes, or the one that the page has.
 -- Assumes nothing.
-use mathlib.Core.Path.{◌≡◌, ap, ◌∙◌, ap₂}
-use Prim.Native.Nat.{ℕ, ◌-◌, ◌*◌, ◌%◌, ◌≤◌, ◌<◌}
+use mathlib.Core.List.{List}
+use mathlib.Core.Path.{◌≡◌, ◌∙◌, ap₂}
+use Prim.Native.Nat.{ℕ, ◌-◌, ◌*◌, ◌≤◌, ◌<◌}
 use native.Mathlib.Omega.{arith}
-use lib.ListN.{length, set}
+use lib.ListN.{length, set, get_or}
 use Rattle.units.specs.Writing.{part_put}
 use Rattle.signature.specs.Objects.{low_bytes}
 use Rattle.repair.proofs.Changed.{put_both, put_low}
@@ -19,8 +20,9 @@ returns-then-page-at-gt1 c =
     ∙ put_both args.page.now args.i.count args.x inside room
 
 pub returns : goal.returns
+unfolding low_bytes
 returns c =
     let args : _ = c.args in
     let at : c.bytes_of-at.result.count ≡ args.i.count * 2 = omega (arith, c.bytes_of-at.ensures) in
     let room : length args.page.now - args.i.count * 2 ≤ 1 = omega arith in
-    ap (λ (k : ℕ). set args.page.now k (args.x % 256)) at ∙ put_low args.page.now args.i.count args.x c.requires room
+    ap₂ (λ (k : ℕ) (l : List ℕ). set args.page.now k (get_or l 0 0)) at c.low_bytes.ensures ∙ put_low args.page.now args.i.count args.x c.requires room

@@ -5,7 +5,7 @@ use mathlib.Core.List.{List}
 use Prim.Native.Nat.{ℕ, ◌+◌, ◌/◌, ◌%◌, ◌≤◌}
 use native.Mathlib.Numerals.{add-one}
 use native.Mathlib.Omega.{arith}
-use lib.ListN.{length, set}
+use lib.ListN.{length, get_or, set}
 use Rattle.units.specs.Writing.{written}
 use Rattle.units.proofs.Writing.{written_sets, part_put_lem, part_passed}
 use Rattle.signature.specs.Objects.{low_bytes}
@@ -30,5 +30,6 @@ pub returns : goal.returns
 returns c =
     let args : _ = c.args in
     let fits : args.at + length (low_bytes 2 args.x) ≤ length args.output.now = omega (arith, low_bytes_length 2 args.x) in
-    both args.output.now args.at args.x fits
+    ap (λ (l : List ℕ). set (set args.output.now args.at (get_or l 0 0)) (args.at + 1) (get_or l 1 0)) c.to_le_bytes.ensures
+    ∙ both args.output.now args.at args.x fits
     ∙ sym (part_put_lem (low_bytes 2 args.x) args.output.now args.at fits)

@@ -9,7 +9,6 @@ use native.Mathlib.Decide.{dec_lt}
 use lib.ListN.{length}
 use Rattle.signature.specs.Objects.{symbol, low_first}
 use Rattle.signature.proofs.Parts.{low_first_past}
-use Rattle.components.proofs.Octets.{low_first_lt}
 use Rattle.signature.proofs.symbol.Goals as goal
 
 -- where the place was cut off, there is no symbol
@@ -23,14 +22,8 @@ cut_off object i short =
     let other : length object ≤ i * 2 = omega arith in
     low_first_past 2 object _ one ∙ sym (low_first_past 2 object _ other))
 
-pub overflow_cast-result : goal.overflow_cast-result
-overflow_cast-result c =
-    let object : List ℕ = c.args.object.now in
-    let small : low_first 2 object c.bytes_of.result.count < 65536 = low_first_lt 2 _ _ (λ k. (c.type_inv.object k).fits) in
-    omega (arith, c.two_bytes.ensures)
-
 pub returns : goal.returns
 returns c =
-    c.two_bytes.ensures
+    c.pair.ensures
     ∙ ap (low_first 2 c.args.object.now) c.bytes_of.ensures
     ∙ cut_off c.args.object.now c.args.at.count (omega arith)

@@ -1,7 +1,8 @@
 -- `load::Open::move_to` meets its contract: nothing moves unless no page is damaged, and then all of the image.
 -- Assumes nothing.
 use Rattle.std.specs.Prelude.{Ok}
-use mathlib.Core.Path.{sym, ap, ◌∙◌}
+use mathlib.Core.Path.{◌≡◌, sym, ap, ◌∙◌}
+use Rattle.units.proofs.First.{lowest_some, lowest_none}
 use Prim.Native.Nat.{ℕ, ◌≤◌, ◌<◌}
 use native.Mathlib.Omega.{arith}
 use lib.ListN.{length}
@@ -15,19 +16,18 @@ use Rattle.load.proofs.Open.move_to.Goals as goal
 use Rattle.std.specs.Prelude.{Err}
 use Rattle.units.specs.declared.Refusal.{Refusal}
 
-pub returns-then-k-pages : goal.returns-then-k-pages
+pub returns-in-Some : goal.returns-in-Some
 unfolding open_load
-returns-then-k-pages c =
-    let lowest : _ = c.lowest_damaged-k in
+returns-in-Some c =
     let o : Open = c.args.self.now in
-    let below : lowest_damaged o.h o.image.now o.map.now < pages o.h = omega (arith, lowest.ensures, c.pages.ensures) in
-    simp (lt-ltb _ _ below) (ap (λ (k : ℕ). outcome_of (Err (Refusal.Damaged k)) c.args.table.now) lowest.ensures)
+    let k : (c.in-Some.k ≡ lowest_damaged o.h o.image.now o.map.now) × _ = lowest_some _ (pages o.h) _ (sym c.lowest_damaged.ensures ∙ c.in-Some.is) in
+    let below : lowest_damaged o.h o.image.now o.map.now < pages o.h = omega (arith, k.0, k.1) in
+    simp (lt-ltb _ _ below) (ap (λ (i : ℕ). outcome_of (Err (Refusal.Damaged i)) c.args.table.now) k.0)
 
 pub returns : goal.returns
 unfolding open_load
 returns c =
-    let lowest : _ = c.lowest_damaged-k in
     let o : Open = c.args.self.now in
-    let none : pages o.h ≤ lowest_damaged o.h o.image.now o.map.now = omega (arith, lowest.ensures, c.pages.ensures, c.if-k-pages.false) in
+    let none : pages o.h ≤ lowest_damaged o.h o.image.now o.map.now = lowest_none _ (pages o.h) (sym c.lowest_damaged.ensures ∙ c.in_default.is) in
     simp (le-ltb _ _ none)
     (ap (outcome_of (Ok (record { count = length o.image.now }))) (c.copy_from_slice.ensures.after ∙ sym (written_whole c.args.table.now o.image.now c.requires)))

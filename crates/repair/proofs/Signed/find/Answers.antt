@@ -1,10 +1,13 @@
 -- `repair::Signed::find` meets its contract: the first two components name one change, and it fits or none does.
 -- Assumes nothing.
-use Rattle.std.proofs.Common.{◌≡◌, ℕ, ◌-◌, ◌%◌, false, sym, ap, ap₂, ◌∙◌}
-use native.Mathlib.Omega.{arith}
+use Rattle.std.proofs.Common.{◌≡◌, ◌<◌, ℕ, ◌-◌, ◌%◌, false, sym, ap, ap₂, ◌∙◌}
 use lib.Dec.{eqb}
 use Rattle.field.specs.Field.{GF16, ◌⊕◌, product, power, α}
-use Rattle.units.specs.Naming.{first_named}
+use Rattle.units.specs.Naming.{first_named, lowest_named}
+use Rattle.units.proofs.First.{lowest_some, lowest_none}
+use Rattle.std.specs.Prelude.{Option, Some}
+use mathlib.Core.Path.{refl}
+use mathlib.Core.Bool.{Bool}
 use Rattle.signature.specs.Objects.{symbol, symbols}
 use Rattle.backup.specs.Backups.{same}
 use Rattle.repair.specs.declared.Repair.TheVariants.{Repaired}
@@ -32,29 +35,38 @@ value_is : (d i : ℕ) {new old there moved back : ℕ} → new ≡ old ⊕ move
     → new ≡ there ⊕ product GF16 d (power GF16 α (65535 - i % 65535))
 value_is d i sum read times undone = sum ∙ ap₂ ◌⊕◌ read (times ∙ ap (λ (k : ℕ). product GF16 d (power GF16 α k)) undone)
 
-pub returns-then-i-count : goal.returns-then-i-count
-returns-then-i-count c =
+-- the lowest place that was named, and that it is in the page
+place_at : (test : ℕ → Bool) {answer : Option ℕ} (m i : ℕ) → answer ≡ lowest_named test m → answer ≡ Some i → (i ≡ first_named test m 0) × (i < m)
+place_at test m i is found = lowest_some test m i (sym is ∙ found)
+
+pub returns-in_default : goal.returns-in_default
+returns-in_default c =
     let p : Signed = c.args.self.now in
-    let sought : Sought p.s p.own p.page.now c.sum-d.result c.sum.result c.symbols_in-count.result.count c.power_between-i.result =
-    sought_at p c.requires c.sum-d.ensures c.sum.ensures c.symbols_in-count.ensures c.power_between-i.ensures in
-    sym (find_past sought c.if-i-count.true)
+    let none : _ = lowest_none _ _ (sym c.power_between.ensures ∙ c.in_default.is) in
+    let sought : Sought p.s p.own p.page.now c.sum-d.result c.sum.result c.symbols_in-count.result.count _ =
+    sought_at p c.requires c.sum-d.ensures c.sum.ensures c.symbols_in-count.ensures refl in
+    sym (find_past sought none)
 
 pub returns-then-not-fits : goal.returns-then-not-fits
 returns-then-not-fits c =
     let p : Signed = c.args.self.now in
-    let sought : Sought p.s p.own p.page.now c.sum-d.result c.sum.result c.symbols_in-count.result.count c.power_between-i.result =
-    sought_at p c.requires c.sum-d.ensures c.sum.ensures c.symbols_in-count.ensures c.power_between-i.ensures in
-    let value : _ ≡ symbol 2 p.page.now c.power_between-i.result ⊕ product GF16 c.sum-d.result (power GF16 α (65535 - c.power_between-i.result % 65535)) =
-    value_is c.sum-d.result c.power_between-i.result c.sum-new.ensures c.symbol-old.ensures c.times_power.ensures c.exponent_back.ensures in
+    let i : ℕ = c.in-Some.i in
+    let place : _ = place_at _ _ i c.power_between.ensures c.in-Some.is in
+    let sought : Sought p.s p.own p.page.now c.sum-d.result c.sum.result c.symbols_in-count.result.count i =
+    sought_at p c.requires c.sum-d.ensures c.sum.ensures c.symbols_in-count.ensures place.0 in
+    let value : _ ≡ symbol 2 p.page.now i ⊕ product GF16 c.sum-d.result (power GF16 α (65535 - i % 65535)) =
+    value_is c.sum-d.result i c.sum-new.ensures c.symbol-old.ensures c.times_power.ensures c.exponent_back.ensures in
     sym (find_none sought _ value (sym c.fits.ensures ∙ c.if-not-fits.true))
 
 pub returns : goal.returns
 returns c =
     let p : Signed = c.args.self.now in
-    let sought : Sought p.s p.own p.page.now c.sum-d.result c.sum.result c.symbols_in-count.result.count c.power_between-i.result =
-    sought_at p c.requires c.sum-d.ensures c.sum.ensures c.symbols_in-count.ensures c.power_between-i.ensures in
-    let value : _ ≡ symbol 2 p.page.now c.power_between-i.result ⊕ product GF16 c.sum-d.result (power GF16 α (65535 - c.power_between-i.result % 65535)) =
-    value_is c.sum-d.result c.power_between-i.result c.sum-new.ensures c.symbol-old.ensures c.times_power.ensures c.exponent_back.ensures in
-    ap (λ (x : ℕ). Repaired (record { position = record { count = c.power_between-i.result }; old = x; new = c.sum-new.result; marked = eqb p.s.n 2 }))
+    let i : ℕ = c.in-Some.i in
+    let place : _ = place_at _ _ i c.power_between.ensures c.in-Some.is in
+    let sought : Sought p.s p.own p.page.now c.sum-d.result c.sum.result c.symbols_in-count.result.count i =
+    sought_at p c.requires c.sum-d.ensures c.sum.ensures c.symbols_in-count.ensures place.0 in
+    let value : _ ≡ symbol 2 p.page.now i ⊕ product GF16 c.sum-d.result (power GF16 α (65535 - i % 65535)) =
+    value_is c.sum-d.result i c.sum-new.ensures c.symbol-old.ensures c.times_power.ensures c.exponent_back.ensures in
+    ap (λ (x : ℕ). Repaired (record { position = record { count = i }; old = x; new = c.sum-new.result; marked = eqb p.s.n 2 }))
     c.symbol-old.ensures
-    ∙ sym (find_one sought _ value (omega arith) (sym c.fits.ensures ∙ c.if-not-fits.false))
+    ∙ sym (find_one sought _ value place.1 (sym c.fits.ensures ∙ c.if-not-fits.false))
