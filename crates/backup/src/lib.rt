@@ -22,6 +22,7 @@ pub fn open(one: Bytes, other: Bytes, map: &[u8]) -> Result<Header, Refusal>
 }
 
 #[tactic(auto, using(crate::proofs::Sameness::same_by_parts))]
+// The derived comparison; this stays for what is promised of it, `same_one_answer`.
 pub fn same(a: Signature, b: Signature) -> bool
     ensures { result ≡ backup_same a b }
 {

@@ -95,16 +95,14 @@ pub extern "C" fn cotelark_read_map(
             *page = 0;
             *bucket = 0;
             *pages = 0;
-            *value = b.place;
-            Refusal::from(b).number()
+            replies::refused(Refusal::from(b), value)
         }
         Ok(h) => {
             *n = h.n;
             *page = h.page.count;
             *bucket = h.bucket.count;
             *pages = map::pages(h);
-            *value = 0;
-            0
+            replies::done(0, value)
         }
     }
 }

@@ -85,7 +85,7 @@ pub fn did(answer: Result<Answer, Refusal>, number: &mut u32, value: &mut usize)
     }
 }
 
-// What a repair found. What it says of a change is 0 where it made none.
+// What a repair found, through a pointer for each number, as C takes it. What it says of a change is 0 where it made none.
 pub fn mended(
     repair: Result<Repair, Refusal>,
     answer: &mut u32,

@@ -24,6 +24,7 @@ pub fn double(a: u16) -> u16
     }
 }
 
+// A digit of b a turn, as long as there are any.
 pub fn product(a: u16, b: u16) -> u16
     ensures { result ≡ field_product GF16 a b }
 {
@@ -45,7 +46,7 @@ fn scaled(d: u16, a: u16) -> u16
     if d == 0 { 0 } else { a }
 }
 
-// a · α^e. In turn, s is α to each power of two.
+// a · α^e. A digit of e a turn, as long as there are any; in turn, s is α to each power of two.
 pub fn times_power(a: u16, e: Exponent) -> u16
     ensures { result ≡ field_product GF16 a (field_power GF16 α e.power) }
 {

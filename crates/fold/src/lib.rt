@@ -145,7 +145,7 @@ fn fold<R: Relation>(page: &[u8], window: &mut [u8])
     land::<R>(window);
 }
 
-// A block is taken into a window, from its top down.
+// A block is taken into a window, from its top down. By index: each byte is made of bytes above it in the same window.
 fn down<R: Relation>(block: &[u8], window: &mut [u8])
     requires { length block.now + R.REACH ≤ length window.old }
     ensures { Down (in_bytes R.known.offsets) block.now window.old window.new }
@@ -177,7 +177,7 @@ fn land<R: Relation>(window: &mut [u8])
     }
 }
 
-// What the window holds from one place to another, added to its first bytes.
+// What the window holds from one place to another, added to its first bytes. By index: the two parts are of one window, and may overlap.
 fn add(window: &mut [u8], from: usize, to: usize)
     requires { (from ≤ to) × (to ≤ length window.old) }
     ensures { Added from to window.old window.new }

@@ -29,6 +29,7 @@ fn digit(d: usize) -> u8
 fn width(x: usize) -> usize
     ensures { result ≡ digits_width x }
 {
+    // `as`, since there is no `From<u32>` for `usize`
     x.max(1).ilog10() as usize + 1
 }
 

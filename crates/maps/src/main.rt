@@ -7,18 +7,6 @@ use units::Bytes;
 
 fn main() {
     case_12();
-    refusals();
-    edges();
-}
-
-fn case_12() {
-    let mut output = [0xEE; 40];
-    program::about(b"case 12");
-    program::filled(map::make(2, Bytes { count: 4 }, program::CASE_12, &mut output));
-    program::bytes(&output);
-}
-
-fn refusals() {
     for (what, n, page, bytes, room) in [
         ("n 0, page 3", 0, 3, 8_193, 0),
         ("n 5, page 2", 5, 2, 8_193, 0),
@@ -33,13 +21,6 @@ fn refusals() {
             8_192,
             45_073,
         ),
-    ] {
-        make(what, n, page, bytes, room);
-    }
-}
-
-fn edges() {
-    for (what, n, page, bytes, room) in [
         ("8192 bytes in pages of 2", 4, 2, 8_192, 45_074),
         ("65536 bytes in a page of 65536", 3, 65_536, 65_536, 27),
         ("65537 bytes in pages of 65536", 3, 65_536, 65_537, 45_074),
@@ -47,6 +28,14 @@ fn edges() {
     ] {
         make(what, n, page, bytes, room);
     }
+}
+
+// As `cases` has it, but for label and room: a function for both would bring `map` into `program`.
+fn case_12() {
+    let mut output = [0xEE; 40];
+    program::about(b"case 12");
+    program::filled(map::make(2, Bytes { count: 4 }, program::CASE_12, &mut output));
+    program::bytes(&output);
 }
 
 // A map of so many bytes of 5A hex, for an output of so much room.

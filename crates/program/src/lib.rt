@@ -69,7 +69,7 @@ impl<T, const N: usize> Buffer<T, N> {
     }
 }
 
-// As much as a buffer has.
+// As much as a buffer has: the library's `min`; this stays for what is promised of it, `within_one_answer`.
 pub fn within(x: usize, most: usize) -> usize
     ensures { (result ≡ min x most) × (result ≤ most) }
 {
@@ -112,7 +112,7 @@ pub fn print_line<D: Display + Drop>(what: D)
     let _ = Output.writeln(what);
 }
 
-// What a line is about.
+// What a line is about. Of bytes here and in the next, as it was: a `&str` would ask more of callers.
 pub fn about(what: &[u8])
     ensures { result ≡ tt }
 {

@@ -7,7 +7,7 @@ ghost use Rattle.reader.specs.Readers.{reader_at, advanced_of, advancing};
 
 use units::Symbols;
 
-// A field that keeps its tag's rule: where its value stands, and where the next field begins.
+// A field that keeps its tag's rule: where its value stands, and where the next field begins. The tag is the file's own byte, as `field_at` has it, and no enum.
 #[derive(Clone, Copy, Debug, PartialEq, Eq, Hash)]
 pub struct Tagged {
     pub tag: u8,

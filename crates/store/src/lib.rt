@@ -164,7 +164,7 @@ impl<'a> Open<'a> {
         }
     }
 
-    // Step by step, until one says that the store is finished.
+    // Step by step, until one says that the store is finished. List and count stand in this one function, and a struct for them would be longer.
     #[tactic(auto, using(crate::proofs::Underway::no_room))]
     fn store(&mut self, list: &mut [usize]) -> Result<usize, Refusal>
         ensures same_backup { IsAsOpened self.old self.new }

@@ -125,18 +125,19 @@ fn powers() {
 }
 
 fn order() {
-    let power = return_of_alpha();
-    print_line(format_args!("alpha is 1 again at its power {power}"));
+    if let Some(power) = return_of_alpha() {
+        print_line(format_args!("alpha is 1 again at its power {power}"));
+    }
 }
 
-// The first power of α above 0 that is 1; 70,000 where none up to there is.
-fn return_of_alpha() -> usize {
+// The first power of α above 0 that is 1, below 70,000.
+fn return_of_alpha() -> Option<usize> {
     let mut s: u16 = 2;
     for k in 1..70_000 {
         if s == 1 {
-            return k;
+            return Some(k);
         }
         s = field::double(s);
     }
-    70_000
+    None
 }

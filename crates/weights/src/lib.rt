@@ -62,7 +62,7 @@ pub fn move_on(weights: &mut [u16])
     }
 }
 
-// How often 1100B hex goes off is found first: the weight, times the inverse of 1 + x^-4 + x^-13 + x^-15 + x^-16.
+// At 16 digits, where `words` reduces 64: so many symbols are moved at once as stand in a vector. How often 1100B hex goes off is found first: the weight, times the inverse of 1 + x^-4 + x^-13 + x^-15 + x^-16.
 fn moved(weight: u16) -> u16
     ensures { result ≡ field_product GF16 weight (field_power GF16 α 16) }
 {

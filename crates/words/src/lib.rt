@@ -182,7 +182,7 @@ fn word_at(object: &[u8], i: usize) -> u64
     }
 }
 
-// Byte by byte, from the last one down.
+// Byte by byte, from the last one down: by `from_le_bytes` of a copy in eight zeros, signing 131 bytes takes a tenth longer.
 fn cut_word(bytes: &[u8]) -> u64
     requires { length bytes.now ≤ 8 }
     ensures { result ≡ low_first 8 bytes.now 0 }
