@@ -13,6 +13,7 @@ ghost use Rattle.reader.specs.Fields.{field_at, is_due};
 ghost use Rattle.map.specs.Reading.{header_of, header_tests, entry_tests, told, reading, entry_at};
 
 pub use making::{component, make, page_at, put_entry};
+use reader::{Reader, Tagged};
 use signature::Signature;
 use std::error::Error;
 use std::fmt;
@@ -66,18 +67,18 @@ fn four_bytes(map: &[u8], at: usize) -> usize
     signature::two_bytes(map, at) + signature::two_bytes(map, at + 2) * 65536
 }
 
-// Whether the field at a place keeps its rule and has the tag that is due there.
-fn due(tag: u8, n: usize, map: &[u8], at: usize) -> bool
-    ensures { result ≡ is_due tag (field_at n map.now at) }
+// Whether a field that was read keeps its rule and has the tag that is due there.
+fn due(tag: u8, field: Option<Tagged>) -> bool
+    ensures { result ≡ is_due tag field }
 {
-    reader::read_field(n, map, at).is_some_and(|field| field.tag == tag)
+    field.is_some_and(|field| field.tag == tag)
 }
 
-// Whether that is so, and the field's value is allowed.
+// Whether the field at a place is due there, and its value is allowed.
 fn keeps_rule(tag: u8, map: &[u8], at: usize, allowed: bool) -> bool
     ensures { result ≡ (is_due tag (field_at 0 map.now at) && allowed) }
 {
-    due(tag, 0, map, at) && allowed
+    due(tag, reader::read_field(0, map, at)) && allowed
 }
 
 // What stands in the places of the header's three values.
@@ -123,16 +124,16 @@ fn read_entries(h: Header, map: &[u8]) -> Result<Header, Break>
     requires { h.n ≤ 4 }
     ensures { result ≡ told (first (entry_tests h.n map.now (header_pages h) 18)) h }
 {
-    let size = 3 + 2 * h.n;
-    let mut at = HEADER_BYTES;
+    let mut fields = Reader::new(map, HEADER_BYTES);
     for k in 0..pages(h) {
-        if !due(4, h.n, map, at) {
-            return Err(Break { place: at });
+        let place = fields.place;
+        if !due(4, fields.next(h.n)) {
+            return Err(Break { place });
         }
-        at += size;
     }
-    if at < map.len() {
-        return Err(Break { place: at });
+    let place = fields.place;
+    if place < map.len() {
+        return Err(Break { place });
     }
     Ok(h)
 }
