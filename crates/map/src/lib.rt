@@ -16,7 +16,7 @@ pub use making::{component, make, page_at, put_entry};
 use reader::{Reader, Tagged};
 use signature::Signature;
 use std::error::Error;
-use std::fmt;
+use std::{array, fmt};
 use units::{Bytes, Refusal};
 
 // The three fields before the first entry.
@@ -64,7 +64,7 @@ fn four_bytes(map: &[u8], at: usize) -> usize
     requires { at + 3 < 2 ^ 64 }
     ensures { result ≡ low_first 4 map.now at }
 {
-    signature::two_bytes(map, at) + signature::two_bytes(map, at + 2) * 65536
+    u32::from_le_bytes(array::from_fn(|i| signature::byte(map, Bytes { count: at + i }))) as usize
 }
 
 // Whether a field that was read keeps its rule and has the tag that is due there.
@@ -168,21 +168,10 @@ pub fn entry_at(n: usize, map: &[u8], k: usize) -> Entry
 fn place_within(n: usize, k: usize, most: usize) -> usize
     ensures { result ≡ min (file_place n k) most }
 {
-    if most < HEADER_BYTES {
-        return most;
-    }
-    if k == 0 {
-        return HEADER_BYTES;
-    }
-    let room = most - HEADER_BYTES;
-    if n > room / 2 {
-        return most;
-    }
-    let size = 3 + 2 * n;
-    if k > room / size {
-        return most;
-    }
-    HEADER_BYTES + k * size
+    let size = n.saturating_mul(2).saturating_add(3);
+    k.saturating_mul(size)
+        .saturating_add(HEADER_BYTES)
+        .min(most)
 }
 
 // Component j of the entry at a place; zero above n.

@@ -17,18 +17,9 @@ pub fn page_at<'a>(page: Bytes, bucket: &'a [u8], k: usize) -> &'a [u8]
     ensures { result.now ≡ page_at page.count bucket.now k }
 {
     let size = page.count;
-    if size == 0 {
-        return &bucket[..0];
-    }
-    if k > bucket.len() / size {
-        return &bucket[..0];
-    }
-    let start = k * size;
-    if size < bucket.len() - start {
-        let end = start + size;
-        return &bucket[start..end];
-    }
-    &bucket[start..]
+    let start = k.saturating_mul(size).min(bucket.len());
+    let end = start.saturating_add(size).min(bucket.len());
+    &bucket[start..end]
 }
 
 // The three fields before the first entry: of each the tag, the length of its value, and the value.

@@ -1,26 +1,21 @@
--- `map::four_bytes` meets its contract: four bytes are two and two.
+-- `map::four_bytes` meets its contract: four bytes, low byte first, are a number.
 -- Assumes nothing.
-use mathlib.Core.Path.{sym, ap₂, ◌∙◌}
-use Prim.Native.Nat.{ℕ, ◌+◌, ◌*◌, ◌<◌}
+use mathlib.Core.Path.{◌≡◌, ◌∙◌}
+use mathlib.Core.List.{List}
+use Prim.Native.Nat.{ℕ, ◌+◌}
 use native.Mathlib.Omega.{arith}
-use Rattle.signature.specs.Objects.{low_first}
-use Rattle.signature.proofs.Octets.{low_first_lt}
-use Rattle.signature.proofs.Numbers.{four_bytes}
+use lib.ListN.{get_or}
+use Rattle.std.proofs.Common.{rules}
+use Rattle.signature.proofs.Numbers.{two_bytes, four_bytes}
 use Rattle.map.proofs.four_bytes.Goals as goal
-
-pub overflow_mul-result : goal.overflow_mul-result
-overflow_mul-result c =
-    let args : _ = c.args in
-    let high : low_first 2 args.map.now (args.at + 2) < 65536 = low_first_lt 2 _ _ (λ k. (c.type_inv.map k).fits) in
-    omega (arith, c.two_bytes-2.ensures)
-
-pub overflow_add-result : goal.overflow_add-result
-overflow_add-result c =
-    let args : _ = c.args in
-    let high : low_first 2 args.map.now (args.at + 2) < 65536 = low_first_lt 2 _ _ (λ k. (c.type_inv.map k).fits) in
-    let low : low_first 2 args.map.now args.at < 65536 = low_first_lt 2 _ _ (λ k. (c.type_inv.map k).fits) in
-    omega (arith, c.two_bytes.ensures, c.two_bytes-2.ensures)
 
 pub returns : goal.returns
 returns c =
-    ap₂ (λ (x y : ℕ). x + y * 65536) c.two_bytes.ensures c.two_bytes-2.ensures ∙ sym (four_bytes _ _)
+    let map : List ℕ = c.args.map.now in
+    let at : ℕ = c.args.at in
+    let each : _ = c.from_fn.ensures.items.each in
+    let zeroth : get_or c.from_fn.result 0 0 ≡ get_or map (at + 0) 0 = each.2.1 0 ∙ search (rules, each.3.met.0) in
+    let first : get_or c.from_fn.result 1 0 ≡ get_or map (at + 1) 0 = each.4.2.1 0 ∙ search (rules, each.4.3.met.0, each.3.met.1) in
+    let second : get_or c.from_fn.result 2 0 ≡ get_or map (at + 2) 0 = each.4.4.2.1 0 ∙ search (rules, each.4.4.3.met.0, each.4.3.met.1, each.3.met.1) in
+    let third : get_or c.from_fn.result 3 0 ≡ get_or map (at + 3) 0 = each.4.4.4.2.1 0 ∙ search (rules, each.4.4.4.3.met.0, each.4.4.3.met.1, each.4.3.met.1, each.3.met.1) in
+    grind (arith, c.from_le_bytes.ensures, zeroth, first, second, third, four_bytes map at, two_bytes map at, two_bytes map (at + 2))
