@@ -22,6 +22,15 @@ use units::{Bytes, Refusal};
 // The three fields before the first entry.
 pub const HEADER_BYTES: usize = 18;
 
+// The tags of the fields, in the order of the file.
+const N_TAG: u8 = 1;
+
+const PAGE_TAG: u8 = 2;
+
+const BUCKET_TAG: u8 = 3;
+
+const ENTRY_TAG: u8 = 4;
+
 #[derive(Clone, Copy, Debug, PartialEq, Eq, Hash)]
 pub struct Header {
     pub n: usize,
@@ -59,7 +68,7 @@ impl From<Break> for Refusal {
     }
 }
 
-// Past the map's end there are zeros. Bytes and a place here and in the three below, and no `Reader`: each place is given by the format, and none follows from a call before.
+// Past the map's end there are zeros. The format gives the place: a `Reader` for one call would be no plainer.
 fn four_bytes(map: &[u8], at: usize) -> usize
     requires { at + 3 < 2 ^ 64 }
     ensures { result ≡ low_first 4 map.now at }
@@ -74,7 +83,7 @@ fn due(tag: u8, field: Option<Tagged>) -> bool
     field.is_some_and(|field| field.tag == tag)
 }
 
-// Whether the field at a place is due there, and its value is allowed.
+// Whether the field at a place is due there, and its value is allowed. The format gives the place: a `Reader` for one call would be no plainer.
 fn keeps_rule(tag: u8, map: &[u8], at: usize, allowed: bool) -> bool
     ensures { result ≡ (is_due tag (field_at 0 map.now at) && allowed) }
 {
@@ -106,13 +115,18 @@ fn read_header(map: &[u8]) -> Result<Header, Break>
     ensures { result ≡ told (first (header_tests map.now)) (header_of map.now) }
 {
     let h = header_of(map);
-    if !keeps_rule(1, map, 0, units::n_allowed(h.n)) {
+    if !keeps_rule(N_TAG, map, 0, units::n_allowed(h.n)) {
         return Err(Break { place: 0 });
     }
-    if !keeps_rule(2, map, 4, units::page_allowed(h.page)) {
+    if !keeps_rule(PAGE_TAG, map, 4, units::page_allowed(h.page)) {
         return Err(Break { place: 4 });
     }
-    if !keeps_rule(3, map, 11, units::bucket_allowed(h.bucket, pages(h))) {
+    if !keeps_rule(
+        BUCKET_TAG,
+        map,
+        11,
+        units::bucket_allowed(h.bucket, pages(h)),
+    ) {
         return Err(Break { place: 11 });
     }
     Ok(h)
@@ -127,7 +141,7 @@ fn read_entries(h: Header, map: &[u8]) -> Result<Header, Break>
     let mut fields = Reader::new(map, HEADER_BYTES);
     for k in 0..pages(h) {
         let place = fields.place;
-        if !due(4, fields.next(h.n)) {
+        if !due(ENTRY_TAG, fields.next(h.n)) {
             return Err(Break { place });
         }
     }
@@ -174,7 +188,7 @@ fn place_within(n: usize, k: usize, most: usize) -> usize
         .min(most)
 }
 
-// Component j of the entry at a place; zero above n.
+// Component j of the entry at a place; zero above n. The format gives the place: a `Reader` for one call would be no plainer.
 fn component_at(n: usize, j: usize, map: &[u8], at: usize) -> u16
     requires { (j ≤ 4) × (at ≤ length map.now) }
     ensures { result ≡ up_to n j (low_first 2 map.now (at + 1 + 2 * j)) }
