@@ -1,6 +1,6 @@
 -- The rules of a map's entries, one turn of them: an entry that is due, one that is not, and the end of the file.
 -- Assumes nothing.
-use mathlib.Core.Path.{◌≡◌, ap, ◌∙◌}
+use mathlib.Core.Path.{◌≡◌, sym, ap, ◌∙◌}
 use mathlib.Core.Bool.{true, false}
 use mathlib.Core.List.{List}
 use Prim.Native.Nat.{ℕ, zero, suc, ◌+◌, ◌*◌, ◌≤◌, ◌<◌}
@@ -12,9 +12,11 @@ use Rattle.units.specs.Counts.{bytes_in}
 use Rattle.units.specs.Refusals.{first}
 use Rattle.units.proofs.Refusing.{Quiet}
 use Rattle.map.specs.Files.{entry_bytes}
-use Rattle.reader.specs.Fields.{long, rule, field_at, is_due}
+use Rattle.reader.specs.Fields.{Field, long, rule, field_at, is_due, behind}
+use Rattle.reader.specs.Readers.{Advanced, advanced_of, advancing}
+use Rattle.reader.specs.declared.Reader.{Reader}
 use Rattle.map.specs.Reading.{entry_tests}
-use Rattle.reader.proofs.Due.{Due, is_due_lem, due_is}
+use Rattle.reader.proofs.Due.{Due, is_due_lem, due_is, behind_due}
 use Rattle.units.specs.Refusals.{allowed, refused}
 use Rattle.units.specs.declared.Refusal.{Refusal}
 
@@ -52,6 +54,25 @@ module _ (n : ℕ) (bytes : List ℕ) where
 
   pub due_entry : n ≤ 4 → (at : ℕ) → Due 4 (2 * n) bytes at → is_due 4 (field_at n bytes at) ≡ true
   due_entry small at d = due_is n 4 (2 * n) bytes at (entry_rule n small) d
+
+  -- one turn of a reader of these bytes, where m entries are left
+  module _ (r s : Reader) (f : Field) (same : r.bytes.now ≡ bytes) (step : advanced_of f s ≡ advancing n r) (m left : ℕ) (up : m ≡ suc left) where
+    taken : is_due 4 f ≡ is_due 4 (field_at n bytes r.place)
+    taken = ap (λ (a : Advanced). is_due 4 a.field) step ∙ ap (λ (l : List ℕ). is_due 4 (field_at n l r.place)) same
+
+    pub turn_broken : is_due 4 f ≡ false → first (entry_tests n bytes m r.place) ≡ refused (Refusal.Map r.place)
+    turn_broken e = ap (λ (k : ℕ). first (entry_tests n bytes k r.place)) up ∙ entry_broken left r.place (sym taken ∙ e)
+
+    pub turn_kept : n ≤ 4 → is_due 4 f ≡ true → (first (entry_tests n bytes left s.place) ≡ first (entry_tests n bytes m r.place)) × (s.bytes.now ≡ bytes)
+    turn_kept small e =
+        let due : is_due 4 (field_at n bytes r.place) ≡ true = sym taken ∙ e in
+        let ends : r.place + 3 + 2 * n ≡ r.place + entry_bytes n = omega arith in
+        let on : s.place ≡ r.place + entry_bytes n =
+        ap (λ (a : Advanced). a.reader.place) step ∙ ap (λ (l : List ℕ). behind r.place (field_at n l r.place)) same
+        ∙ behind_due n 4 (2 * n) bytes r.place (entry_rule n small) (entry_due small r.place due) ∙ ends in (
+          ap (λ (at : ℕ). first (entry_tests n bytes left at)) on ∙ sym (entry_kept left r.place due) ∙ ap (λ (k : ℕ). first (entry_tests n bytes k r.place)) (sym up),
+          ap (λ (a : Advanced). a.reader.bytes.now) step ∙ same,
+        )
 
   -- where every rule is kept: each entry is due, and the file ends with the last
 

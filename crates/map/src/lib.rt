@@ -13,13 +13,23 @@ ghost use Rattle.reader.specs.Fields.{field_at, is_due};
 ghost use Rattle.map.specs.Reading.{header_of, header_tests, entry_tests, told, reading, entry_at};
 
 pub use making::{component, make, page_at, put_entry};
+use reader::{Reader, Tagged};
 use signature::Signature;
 use std::error::Error;
-use std::fmt;
+use std::{array, fmt};
 use units::{Bytes, Refusal};
 
 // The three fields before the first entry.
 pub const HEADER_BYTES: usize = 18;
+
+// The tags of the fields, in the order of the file.
+const N_TAG: u8 = 1;
+
+const PAGE_TAG: u8 = 2;
+
+const BUCKET_TAG: u8 = 3;
+
+const ENTRY_TAG: u8 = 4;
 
 #[derive(Clone, Copy, Debug, PartialEq, Eq, Hash)]
 pub struct Header {
@@ -58,26 +68,26 @@ impl From<Break> for Refusal {
     }
 }
 
-// Past the map's end there are zeros. Bytes and a place here and in the three below, and no `Reader`: each place is given by the format, and none follows from a call before.
+// Past the map's end there are zeros. The format gives the place: a `Reader` for one call would be no plainer.
 fn four_bytes(map: &[u8], at: usize) -> usize
     requires { at + 3 < 2 ^ 64 }
     ensures { result ≡ low_first 4 map.now at }
 {
-    signature::two_bytes(map, at) + signature::two_bytes(map, at + 2) * 65536
+    u32::from_le_bytes(array::from_fn(|i| signature::byte(map, Bytes { count: at + i }))) as usize
 }
 
-// Whether the field at a place keeps its rule and has the tag that is due there.
-fn due(tag: u8, n: usize, map: &[u8], at: usize) -> bool
-    ensures { result ≡ is_due tag (field_at n map.now at) }
+// Whether a field that was read keeps its rule and has the tag that is due there.
+fn due(tag: u8, field: Option<Tagged>) -> bool
+    ensures { result ≡ is_due tag field }
 {
-    reader::read_field(n, map, at).is_some_and(|field| field.tag == tag)
+    field.is_some_and(|field| field.tag == tag)
 }
 
-// Whether that is so, and the field's value is allowed.
+// Whether the field at a place is due there, and its value is allowed. The format gives the place: a `Reader` for one call would be no plainer.
 fn keeps_rule(tag: u8, map: &[u8], at: usize, allowed: bool) -> bool
     ensures { result ≡ (is_due tag (field_at 0 map.now at) && allowed) }
 {
-    due(tag, 0, map, at) && allowed
+    due(tag, reader::read_field(0, map, at)) && allowed
 }
 
 // What stands in the places of the header's three values.
@@ -105,13 +115,18 @@ fn read_header(map: &[u8]) -> Result<Header, Break>
     ensures { result ≡ told (first (header_tests map.now)) (header_of map.now) }
 {
     let h = header_of(map);
-    if !keeps_rule(1, map, 0, units::n_allowed(h.n)) {
+    if !keeps_rule(N_TAG, map, 0, units::n_allowed(h.n)) {
         return Err(Break { place: 0 });
     }
-    if !keeps_rule(2, map, 4, units::page_allowed(h.page)) {
+    if !keeps_rule(PAGE_TAG, map, 4, units::page_allowed(h.page)) {
         return Err(Break { place: 4 });
     }
-    if !keeps_rule(3, map, 11, units::bucket_allowed(h.bucket, pages(h))) {
+    if !keeps_rule(
+        BUCKET_TAG,
+        map,
+        11,
+        units::bucket_allowed(h.bucket, pages(h)),
+    ) {
         return Err(Break { place: 11 });
     }
     Ok(h)
@@ -123,16 +138,16 @@ fn read_entries(h: Header, map: &[u8]) -> Result<Header, Break>
     requires { h.n ≤ 4 }
     ensures { result ≡ told (first (entry_tests h.n map.now (header_pages h) 18)) h }
 {
-    let size = 3 + 2 * h.n;
-    let mut at = HEADER_BYTES;
+    let mut fields = Reader::new(map, HEADER_BYTES);
     for k in 0..pages(h) {
-        if !due(4, h.n, map, at) {
-            return Err(Break { place: at });
+        let place = fields.place;
+        if !due(ENTRY_TAG, fields.next(h.n)) {
+            return Err(Break { place });
         }
-        at += size;
     }
-    if at < map.len() {
-        return Err(Break { place: at });
+    let place = fields.place;
+    if place < map.len() {
+        return Err(Break { place });
     }
     Ok(h)
 }
@@ -167,24 +182,13 @@ pub fn entry_at(n: usize, map: &[u8], k: usize) -> Entry
 fn place_within(n: usize, k: usize, most: usize) -> usize
     ensures { result ≡ min (file_place n k) most }
 {
-    if most < HEADER_BYTES {
-        return most;
-    }
-    if k == 0 {
-        return HEADER_BYTES;
-    }
-    let room = most - HEADER_BYTES;
-    if n > room / 2 {
-        return most;
-    }
-    let size = 3 + 2 * n;
-    if k > room / size {
-        return most;
-    }
-    HEADER_BYTES + k * size
+    let size = n.saturating_mul(2).saturating_add(3);
+    k.saturating_mul(size)
+        .saturating_add(HEADER_BYTES)
+        .min(most)
 }
 
-// Component j of the entry at a place; zero above n.
+// Component j of the entry at a place; zero above n. The format gives the place: a `Reader` for one call would be no plainer.
 fn component_at(n: usize, j: usize, map: &[u8], at: usize) -> u16
     requires { (j ≤ 4) × (at ≤ length map.now) }
     ensures { result ≡ up_to n j (low_first 2 map.now (at + 1 + 2 * j)) }

@@ -8,7 +8,9 @@ ghost use Rattle.map.specs.Files.{entries, entry_put, file_bytes};
 ghost use Rattle.map.specs.Files.{header as file_header, components as file_components, pages as header_pages};
 ghost use Rattle.map.specs.Making.{made_entry, making};
 
-use crate::{Entry, HEADER_BYTES, Header, pages, place_within};
+use crate::{
+    BUCKET_TAG, ENTRY_TAG, Entry, HEADER_BYTES, Header, N_TAG, PAGE_TAG, pages, place_within,
+};
 use signature::Signature;
 use units::{Bytes, Refusal};
 
@@ -17,18 +19,9 @@ pub fn page_at<'a>(page: Bytes, bucket: &'a [u8], k: usize) -> &'a [u8]
     ensures { result.now ≡ page_at page.count bucket.now k }
 {
     let size = page.count;
-    if size == 0 {
-        return &bucket[..0];
-    }
-    if k > bucket.len() / size {
-        return &bucket[..0];
-    }
-    let start = k * size;
-    if size < bucket.len() - start {
-        let end = start + size;
-        return &bucket[start..end];
-    }
-    &bucket[start..]
+    let start = k.saturating_mul(size).min(bucket.len());
+    let end = start.saturating_add(size).min(bucket.len());
+    &bucket[start..end]
 }
 
 // The three fields before the first entry: of each the tag, the length of its value, and the value.
@@ -39,9 +32,9 @@ fn header(h: Header) -> [u8; HEADER_BYTES]
     let [p0, p1, p2, p3, ..] = h.page.count.to_le_bytes();
     let [b0, b1, b2, b3, ..] = h.bucket.count.to_le_bytes();
     [
-        1, 1, 0, n, // components
-        2, 4, 0, p0, p1, p2, p3, // bytes of a page
-        3, 4, 0, b0, b1, b2, b3, // bytes of the bucket
+        N_TAG, 1, 0, n, // components
+        PAGE_TAG, 4, 0, p0, p1, p2, p3, // bytes of a page
+        BUCKET_TAG, 4, 0, b0, b1, b2, b3, // bytes of the bucket
     ]
 }
 
@@ -89,7 +82,7 @@ fn made_entry(h: Header, bucket: &[u8], k: usize) -> Entry
     ensures { result ≡ made_entry h.n h.page.count bucket.now k }
 {
     Entry {
-        tag: 4,
+        tag: ENTRY_TAG,
         signature: signature::own(h.n, page_at(h.page, bucket, k)),
     }
 }
