@@ -29,7 +29,7 @@ const PAGE_TAG: u8 = 2;
 
 const BUCKET_TAG: u8 = 3;
 
-const ENTRY_TAG: u8 = 4;
+pub const ENTRY_TAG: u8 = 4;
 
 #[derive(Clone, Copy, Debug, PartialEq, Eq, Hash)]
 pub struct Header {

@@ -152,7 +152,7 @@ impl<'a> Open<'a> {
         units::put_part(page, self.image, at);
         map::put_entry(
             Entry {
-                tag: 4,
+                tag: map::ENTRY_TAG,
                 signature: own,
             },
             self.map,
