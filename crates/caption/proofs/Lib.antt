@@ -2,6 +2,7 @@
 pub mod Codes
 pub mod Rows
 pub mod Turns
+pub mod Listing
 pub mod Fields
 pub mod Finding
 pub mod Allowing

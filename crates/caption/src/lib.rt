@@ -1,7 +1,7 @@
 // Caption fields in the cumulative code: a field encoded, decoded, and searched for a plain pattern as it stands, without decoding.
 #![tactic(auto)]
 
-ghost use Rattle.std.specs.Prelude.{Bool, false, List, ◌≡◌, ℕ, ◌+◌, ◌-◌, ◌*◌, ◌%◌, ◌≤◌, ◌<◌, eqb, length, get_or};
+ghost use Rattle.std.specs.Prelude.{Bool, false, List, ◌≡◌, ℕ, ◌+◌, ◌-◌, ◌*◌, ◌%◌, ◌≤◌, ◌<◌, eqb, length, get_or, set};
 ghost use Rattle.units.specs.Filling.{outcome_of};
 ghost use Rattle.units.specs.Naming.{named};
 ghost use Rattle.units.specs.Refusals.{first};
@@ -210,7 +210,7 @@ fn find(caption: &[u8], pattern: &[u8], list: &mut [usize]) -> Result<usize, Ref
     let l = signature::symbols_in(pattern).count;
     let mut weighed = [0u16; 16];
     weights::put_weights(signature::own(1, pattern).s1, &mut weighed);
-    let mut found: usize = 0;
+    let mut hits = Hits { list, found: 0 };
     let mut i: usize = 0;
     // Not `for i in (0..count).step_by(16)`: with it a search takes 7 % longer, as a step looks for the end twice.
     while i < count {
@@ -222,12 +222,12 @@ fn find(caption: &[u8], pattern: &[u8], list: &mut [usize]) -> Result<usize, Ref
             weighed: &weighed[..n],
         };
         if block.may_hit() {
-            found = block.note(list, found);
+            block.note(&mut hits);
         }
         weights::move_on(&mut weighed);
         i += n;
     }
-    Ok(found)
+    Ok(hits.found)
 }
 
 // A block of a code's places, from i on and as many as are weighed: where the pattern hits, the l symbols there add up to what is weighed for the place.
@@ -241,7 +241,7 @@ struct Block<'a> {
 }
 
 impl Block<'_> {
-    ghost use Rattle.caption.specs.Blocks.{after, hit_at};
+    ghost use Rattle.caption.specs.Blocks.{after, summed, hit_at, Notes};
 
     // Whether some place may be hit. Before place 0 there is no symbol to read, so that all may be.
     fn may_hit(&self) -> bool
@@ -262,29 +262,45 @@ impl Block<'_> {
     }
 
     // The hits among the places, listed after those before them.
-    fn note(&self, list: &mut [usize], before: usize) -> usize
-        requires { (after self.now ≤ length list.old) × (before ≤ self.now.i) }
-        ensures { (test : ℕ → Bool) (old : List ℕ) → length old ≡ length list.old → ((k : ℕ) → k < length self.now.weighed.now → test (self.now.i + k) ≡ hit_at self.now k) → list.old ≡ written old 0 (named test self.now.i) → before ≡ length (named test self.now.i) → (list.new ≡ written old 0 (named test (after self.now))) × (result ≡ length (named test (after self.now))) }
+    fn note(&self, hits: &mut Hits<'_>)
+        requires { (after self.now ≤ length hits.old.list.now) × (hits.old.found ≤ self.now.i) }
+        ensures noted { (test : ℕ → Bool) (old : List ℕ) → length old ≡ length hits.old.list.now → ((k : ℕ) → k < length self.now.weighed.now → test (self.now.i + k) ≡ hit_at self.now k) → Notes test old self.now.i hits.old → Notes test old (after self.now) hits.new }
+        ensures same_list { hits.new.list.ghost_name ≡ hits.old.list.ghost_name }
     {
-        let mut found = before;
-        for k in 0..self.weighed.len() {
-            if self.hits(k) {
-                list[found] = self.i + k;
-                found += 1;
+        for (k, weighed) in self.weighed.iter().enumerate() {
+            if self.summed(k) == *weighed {
+                hits.push(self.i + k);
             }
         }
-        found
     }
 
-    // Whether the pattern hits at place i + k.
-    fn hits(&self, k: usize) -> bool
+    // What the l symbols at place i + k add up to, weighted as they are in the code.
+    fn summed(&self, k: usize) -> u16
         requires { k < length self.now.weighed.now }
-        ensures { result ≡ hit_at self.now k }
+        ensures { result ≡ summed self.now k }
     {
         let i = self.i + k;
         field::sum(
             previous(self.caption, i + self.l),
             previous(self.caption, i),
-        ) == self.weighed[k]
+        )
+    }
+}
+
+// A list, and how many places stand at its start: those where the pattern hits.
+#[derive(Drop)]
+struct Hits<'a> {
+    list: &'a mut [usize],
+    found: usize,
+}
+
+impl Hits<'_> {
+    fn push(&mut self, place: usize)
+        requires { self.old.found < length self.old.list.now }
+        ensures pushed { (self.new.list.now ≡ set self.old.list.now self.old.found place) × (self.new.found ≡ self.old.found + 1) }
+        ensures same_list { self.new.list.ghost_name ≡ self.old.list.ghost_name }
+    {
+        self.list[self.found] = place;
+        self.found += 1;
     }
 }

@@ -5,12 +5,12 @@ use mathlib.Core.Bool.{Bool}
 use mathlib.Core.List.{List}
 use Prim.Native.Nat.{ℕ, ◌+◌, ◌-◌, ◌≤◌, ◌<◌}
 use lib.ListN.{get_or}
-use Rattle.units.proofs.Noting.{Noted}
 use Rattle.field.specs.Field.{GF16, product}
 use Rattle.signature.specs.Signatures.{signature}
 use Rattle.signature.specs.Objects.{symbol, symbols}
 use Rattle.caption.specs.Searches.{places_for}
 use Rattle.caption.specs.Codes.{weight, hit}
+use Rattle.caption.specs.Blocks.{Notes}
 use Rattle.caption.proofs.find.Given as goal
 
 -- whether the pattern hits at a place
@@ -22,7 +22,8 @@ invariant-loop-i l =
     record {
       inside : l.i ≤ places_for l.caption l.pattern;
       weighed_is : l.i < places_for l.caption l.pattern → (k : ℕ) → k < 16 → get_or l.weighed k 0 ≡ product GF16 (signature GF16 2 l.pattern 1) (weight GF16 0 (l.i + k));
-      noted : Noted (hitting l.caption l.pattern) l.initial.list l.i l.list l.found;
+      same_list : l.hits.list.ghost_name ≡ l.initial.hits.list.ghost_name;
+      noted : Notes (hitting l.caption l.pattern) l.initial.hits.list.now l.i l.hits;
     }
 
 abbrev pub decreases-loop-i : goal.decreases-loop-i
