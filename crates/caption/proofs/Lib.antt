@@ -4,6 +4,7 @@ pub mod Rows
 pub mod Turns
 pub mod Listing
 pub mod Fields
+pub mod Pairs
 pub mod Finding
 pub mod Allowing
 pub mod Answers

@@ -3,8 +3,8 @@ use Rattle.std.specs.Prelude.{Bool, ◌≡◌, List, ℕ, ◌+◌, eqb, length, 
 use Rattle.units.specs.Naming.{named}
 use Rattle.units.specs.Writing.{written}
 use Rattle.field.specs.Field.{◌⊕◌}
-use Rattle.signature.specs.Objects.{symbol}
 use Rattle.caption.specs.Codes.{previous}
+use Rattle.caption.specs.Pairs.{symbol_in}
 use Rattle.caption.specs.declared.Block.{Block}
 use Rattle.caption.specs.declared.Hits.{Hits}
 
@@ -14,7 +14,7 @@ after b = b.i + length b.weighed.now
 
 -- what the symbols at place k of the block, weighted as they are in the code, add up to
 abbrev pub summed : Block → ℕ → ℕ
-summed b k = previous (symbol 2 b.caption.now) (b.i + k + b.l) ⊕ previous (symbol 2 b.caption.now) (b.i + k)
+summed b k = previous (symbol_in b.symbols.now) (b.i + k + b.l) ⊕ previous (symbol_in b.symbols.now) (b.i + k)
 
 -- they add up to what is weighed there
 abbrev pub hit_at : Block → ℕ → Bool

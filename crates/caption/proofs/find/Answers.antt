@@ -21,8 +21,9 @@ use Rattle.signature.proofs.Components.{component_element}
 use Rattle.signature.specs.Signatures.{signature}
 use Rattle.signature.specs.declared.Signature.{Signature}
 use Rattle.signature.specs.Objects.{Octets, symbol, symbols}
-use Rattle.caption.specs.Searches.{searched_of, search_unless, places_for, found}
-use Rattle.caption.specs.Codes.{previous, weight, hit}
+use Rattle.caption.specs.Searches.{searched_of, search_unless}
+use Rattle.caption.specs.Codes.{previous, weight, hit, places}
+use Rattle.caption.specs.Pairs.{symbol_in, found_in}
 use Rattle.caption.proofs.Turns.{lesser}
 use Rattle.caption.proofs.Listing.{none_yet, few_found, as_long, all_passed}
 use Rattle.caption.specs.Blocks.{Notes}
@@ -38,19 +39,24 @@ signed : (pattern : List ℕ) → Octets pattern → Element GF16 (signature GF1
 signed pattern octets = component_element GF16 GF16_formed (symbols 2 pattern) (symbol 2 pattern) 1 (GF16_symbol pattern octets)
 
 -- when every place is through, the list and the count are those of the definition
-all_noted : (caption pattern list₀ : List ℕ) (k : ℕ) (h : Hits) → k ≡ places_for caption pattern
-    → Notes (hitting caption pattern) list₀ k h → searched_of (Ok h.found) h.list.now ≡ search_unless allowed (found 0 caption pattern) list₀
-unfolding hitting found
-all_noted caption pattern list₀ k h all n =
-    let same : named (hitting caption pattern) k ≡ found 0 caption pattern = ap (named (hitting caption pattern)) all in
+all_noted : (pairs : List (List ℕ)) (pattern list₀ : List ℕ) (k : ℕ) (h : Hits) → k ≡ places (length pairs) (symbols 2 pattern)
+    → Notes (hitting pairs pattern) list₀ k h → searched_of (Ok h.found) h.list.now ≡ search_unless allowed (found_in pairs pattern) list₀
+unfolding hitting found_in
+all_noted pairs pattern list₀ k h all n =
+    let same : named (hitting pairs pattern) k ≡ found_in pairs pattern = ap (named (hitting pairs pattern)) all in
     ap₂ (λ (c : ℕ) (l : List ℕ). searched_of (Ok c) l) (n.found_is ∙ ap length same) (n.list_is ∙ ap (written list₀ 0) same)
 
+-- how many places there are
+count_is : (m : ℕ) {l n count : ℕ} → l ≡ n → count ≡ places m l → count ≡ places m n
+count_is m same e = e ∙ ap (places m) same
+
 pub returns-then-count-eq0 : goal.returns-then-count-eq0
-unfolding found
+unfolding found_in
 returns-then-count-eq0 c =
     let args : _ = c.args in
-    let none : found 0 args.caption.now args.pattern.now ≡ [] =
-    ap (named _) (omega (arith, c.places-count.ensures, c.if-count-eq0.true)) ∙ named_none _ in
+    let all : c.places-count.result ≡ places (length args.symbols.now) (symbols 2 args.pattern.now) = count_is _ c.symbols_in-l.ensures c.places-count.ensures in
+    let none : found_in args.symbols.now args.pattern.now ≡ [] =
+    ap (named _) (omega (arith, all, c.if-count-eq0.true)) ∙ named_none _ in
     sym (ap (λ (l : List ℕ). searched_of (Ok (length l)) (written args.list.now 0 l)) none ∙ ap (searched_of (Ok 0)) (written_none args.list.now 0 (omega arith)))
 
 pub loop-i-init : goal.loop-i-init
@@ -69,28 +75,28 @@ note-requires c =
     let at : _ = c.loop-i in
     let n : ℕ = c.min-n.result in
     let few : n ≡ min 16 (c.places-count.result - at.i) = lesser 16 (c.places-count.result - at.i) c.min-n.ensures in
-    (omega (arith, c.places-count.ensures, length-take-le n at.weighed (omega (arith, c.min-n.array_long)), as_long at.invariant.noted (omega (arith, c.places-count.ensures))), few_found at.invariant.noted)
+    (omega (arith, (count_is _ c.symbols_in-l.ensures c.places-count.ensures), length-take-le n at.weighed (omega (arith, c.min-n.array_long)), as_long at.invariant.noted (omega (arith, (count_is _ c.symbols_in-l.ensures c.places-count.ensures)))), few_found at.invariant.noted)
 
 pub loop-i-preserved : goal.loop-i-preserved
 unfolding hitting hit
 loop-i-preserved c =
     let at : _ = c.loop-i in
-    let caption : List ℕ = c.args.caption.now in
+    let pairs : List (List ℕ) = c.args.symbols.now in
     let pattern : List ℕ = c.args.pattern.now in
-    let code : ℕ → ℕ = symbol 2 caption in
+    let code : ℕ → ℕ = symbol_in pairs in
     let l : ℕ = c.symbols_in-l.result.count in
     let n : ℕ = c.min-n.result in
     let few : n ≡ min 16 (c.places-count.result - at.i) = lesser 16 (c.places-count.result - at.i) c.min-n.ensures in
     let sized : length (take n at.weighed) ≡ n = length-take-le n at.weighed (omega (arith, c.min-n.array_long)) in
-    let inside : at.i < places_for caption pattern = omega (arith, c.places-count.ensures) in
-    let each : (k : ℕ) → k < length (take n at.weighed) → hitting caption pattern (at.i + k) ≡ eqb (previous code (at.i + k + l) ⊕ previous code (at.i + k)) (get_or (take n at.weighed) k 0) =
+    let inside : at.i < places (length pairs) (symbols 2 pattern) = omega (arith, (count_is _ c.symbols_in-l.ensures c.places-count.ensures)) in
+    let each : (k : ℕ) → k < length (take n at.weighed) → hitting pairs pattern (at.i + k) ≡ eqb (previous code (at.i + k + l) ⊕ previous code (at.i + k)) (get_or (take n at.weighed) k 0) =
     λ k h.
     sym (ap₂ (λ (m x : ℕ). eqb (previous code (at.i + k + m) ⊕ previous code (at.i + k)) x) c.symbols_in-l.ensures
     (get_or-take n at.weighed k 0 (omega (arith, sized)) ∙ at.invariant.weighed_is inside k (omega arith))) in
     record {
-      inside = omega (arith, c.places-count.ensures);
+      inside = omega (arith, (count_is _ c.symbols_in-l.ensures c.places-count.ensures));
       weighed_is = λ more k h.
-          let on : at.i + k + 16 ≡ at.i + n + k = omega (arith, c.places-count.ensures) in
+          let on : at.i + k + 16 ≡ at.i + n + k = omega (arith, (count_is _ c.symbols_in-l.ensures c.places-count.ensures)) in
           c.move_on.ensures.done k (omega (arith, h, c.min-n.array_long))
           ∙ ap (λ (x : ℕ). product GF16 x (weight GF16 0 16)) (at.invariant.weighed_is inside k h)
           ∙ product_assoc GF16 GF16_formed (signed pattern (λ j. (c.type_inv.pattern j).fits)) (weight_element GF16 0 GF16_passes (at.i + k)) (weight_element GF16 0 GF16_passes 16)
@@ -99,9 +105,9 @@ loop-i-preserved c =
         | then-may_hit w ↦ ap (λ h. h.list.ghost_name) w.hits-is ∙ w.note.ensures.same_list ∙ at.invariant.same_list
         | else-may_hit w ↦ ap (λ h. h.list.ghost_name) w.hits-is ∙ at.invariant.same_list
       ];
-      noted = subst (λ (k : ℕ). Notes (hitting caption pattern) c.args.list.now (at.i + k) c.if-may_hit.hits) sized
+      noted = subst (λ (k : ℕ). Notes (hitting pairs pattern) c.args.list.now (at.i + k) c.if-may_hit.hits) sized
           (elim c.if-may_hit.branch [
-            | then-may_hit w ↦ subst (Notes _ _ _) (sym w.hits-is) (w.note.ensures.noted (hitting caption pattern) c.args.list.now (sym (as_long at.invariant.noted (omega (arith, c.places-count.ensures)))) each at.invariant.noted)
+            | then-may_hit w ↦ subst (Notes _ _ _) (sym w.hits-is) (w.note.ensures.noted (hitting pairs pattern) c.args.list.now (sym (as_long at.invariant.noted (omega (arith, (count_is _ c.symbols_in-l.ensures c.places-count.ensures))))) each at.invariant.noted)
             | else-may_hit w ↦ subst (Notes _ _ _) (sym w.hits-is) (all_passed _ at.invariant.noted (λ k h. each k h ∙ c.may_hit.ensures w.if-may_hit.false k h))
           ]);
     }
@@ -110,5 +116,5 @@ pub returns : goal.returns
 returns c =
     let args : _ = c.args in
     let at : _ = c.loop-i in
-    let all : at.i ≡ places_for args.caption.now args.pattern.now = omega (arith, c.places-count.ensures, at.invariant.inside) in
-    ap (searched_of (Ok at.hits.found)) (search rules) ∙ all_noted args.caption.now args.pattern.now args.list.now at.i at.hits all at.invariant.noted
+    let all : at.i ≡ places (length args.symbols.now) (symbols 2 args.pattern.now) = omega (arith, (count_is _ c.symbols_in-l.ensures c.places-count.ensures), at.invariant.inside) in
+    ap (searched_of (Ok at.hits.found)) (search rules) ∙ all_noted args.symbols.now args.pattern.now args.list.now at.i at.hits all at.invariant.noted
