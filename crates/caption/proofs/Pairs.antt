@@ -1,13 +1,13 @@
 -- A field as pairs of bytes: each pair is a symbol, a part of the pairs has the symbols of its place, and what is made of the pairs is what is made of the field.
 -- Assumes nothing.
-use mathlib.Core.Path.{◌≡◌, refl, ap, ap₂, ◌∙◌}
-use mathlib.Core.List.{List, []}
-use Prim.Native.Nat.{ℕ, zero, suc, ◌+◌, ◌-◌, ◌*◌, ◌/◌, ◌%◌, ◌<◌, ◌≤◌}
+use mathlib.Core.Path.{◌≡◌, refl, sym, ap, ap₂, ◌∙◌}
+use mathlib.Core.List.{List, [], ◌++◌}
+use Prim.Native.Nat.{ℕ, zero, suc, ◌+◌, ◌-◌, ◌*◌, ◌/◌, ◌%◌, ◌<◌, ◌≤◌, min}
 use native.Mathlib.Omega.{arith}
-use lib.ListN.{length, get_or, take, drop}
+use lib.ListN.{length, get_or, take, drop, length-append, length-drop}
 use lib.Dec.{eqb}
-use lib.Seq.{get_or-take, get_or-drop, drop-drop}
-use Rattle.std.proofs.lemmas.List.{length-take-le}
+use lib.Seq.{get_or-take, get_or-drop, drop-drop, drop-append_seam}
+use Rattle.std.proofs.lemmas.List.{length-take-le, get_or_append_left}
 use Rattle.std.specs.Int.{w16, from_le_bytes}
 use Rattle.std.specs.Simd.{first_chunks}
 use Rattle.units.proofs.Naming.{named_same}
@@ -26,9 +26,6 @@ use Rattle.caption.proofs.Rows.{row_same}
 
 pub symbol_front : (i : ℕ) (pairs : List (List ℕ)) (l : ℕ) → l < i → symbol_in (take i pairs) l ≡ symbol_in pairs l
 symbol_front i pairs l below = ap (from_le_bytes w16) (get_or-take i pairs l [] below)
-
-pub symbol_part : (i n : ℕ) (pairs : List (List ℕ)) (l : ℕ) → l < n → symbol_in (take n (drop i pairs)) l ≡ symbol_in pairs (i + l)
-symbol_part i n pairs l below = symbol_front n (drop i pairs) l below ∙ ap (from_le_bytes w16) (get_or-drop i pairs l [])
 
 -- what the last of the first i symbols add to the code
 pub changes_front : (i : ℕ) (pairs : List (List ℕ)) (l : ℕ) → i ≤ length pairs → l < i
@@ -89,3 +86,31 @@ module _ (caption : List ℕ) (even : length caption % 2 ≡ 0) {pairs : List (L
       (previous_below (length pairs) _ _ pairs_symbol (i + l) (inside_place l i inside))
       (previous_below (length pairs) _ _ pairs_symbol i (omega (arith, inside_place l i inside))))
       ∙ ap (λ (m : ℕ). named (hit GF16 0 (symbol 2 caption) l (symbol 2 pattern)) (places m l)) pairs_count
+
+-- ---- a field cut up: what is left of it, the next part, and what is left then
+
+pub record Cut (all rest part left : List (List ℕ)) : Type 0 where
+  pub behind : rest ≡ drop (length all - length rest) all
+  pub parts : rest ≡ part ++ left
+  pub size : length part ≡ min 16 (length rest)
+
+module _ {all rest part left : List (List ℕ)} (c : Cut all rest part left) where
+  cut_lengths : (length rest ≡ length part + length left) × (length rest ≤ length all)
+  cut_lengths = (ap length c.parts ∙ length-append part left, omega (arith, ap length c.behind, length-drop (length all - length rest) all))
+
+  pub cut_gone : length all - length left ≡ length all - length rest + length part
+  cut_gone = omega (arith, cut_lengths.0, cut_lengths.1)
+
+  pub cut_behind : left ≡ drop (length all - length left) all
+  cut_behind =
+      sym (drop-append_seam part left)
+      ∙ ap (drop (length part)) (sym c.parts ∙ c.behind)
+      ∙ drop-drop (length part) (length all - length rest) all
+      ∙ ap (λ (k : ℕ). drop k all) (omega (arith, cut_gone))
+
+  pub cut_symbol : (l : ℕ) → l < length part → symbol_in part l ≡ symbol_in all (length all - length rest + l)
+  cut_symbol l below =
+      ap (from_le_bytes w16)
+      (sym (get_or_append_left part left [] l below)
+      ∙ ap (λ (xs : List (List ℕ)). get_or xs l []) (sym c.parts ∙ c.behind)
+      ∙ get_or-drop (length all - length rest) all l [])

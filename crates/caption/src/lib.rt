@@ -68,11 +68,11 @@ fn put_code(symbols: &[[u8; 2]], output: &mut [u8])
     weights::put_weights(1, &mut weights);
     let mut block = [0u16; 16];
     let mut sum: u16 = 0;
-    for i in (0..symbols.len()).step_by(16) {
-        let n = 16.min(symbols.len() - i);
-        read_symbols(&symbols[i..i + n], &mut block[..n]);
+    for (k, part) in symbols.chunks(16).enumerate() {
+        let n = part.len();
+        read_symbols(part, &mut block[..n]);
         weights::weigh(&mut block, &mut weights);
-        sum = put_sums(&block[..n], sum, i, output);
+        sum = put_sums(&block[..n], sum, k * 16, output);
     }
 }
 
