@@ -59,7 +59,7 @@ fn too_long(caption: &[u8]) -> bool
     !units::caption_allowed(signature::symbols_in(caption))
 }
 
-// Upward, a block at a time: the sum is the code so far.
+// Upward, a block at a time: the sum is the code's last symbol so far.
 fn put_code(symbols: &[[u8; 2]], output: &mut [u8])
     requires { length symbols.now * 2 ≤ length output.old }
     ensures { output.new ≡ written output.old 0 (bytes (length symbols.now) (coded GF16 0 (symbol_in symbols.now))) }
@@ -81,6 +81,7 @@ fn read_symbols(symbols: &[[u8; 2]], block: &mut [u16])
     requires { length block.old ≤ length symbols.now }
     ensures { (l : ℕ) → l < length block.old → get_or block.new l 0 ≡ symbol_in symbols.now l }
 {
+    // By places, not `block.iter_mut().zip(symbols)`: of what an `iter_mut` in a `zip` writes, the proof knows nothing at the end.
     for (l, symbol) in block.iter_mut().enumerate() {
         *symbol = u16::from_le_bytes(symbols[l]);
     }
@@ -94,6 +95,7 @@ fn put_sums(block: &[u16], start: u16, i: usize, output: &mut [u8]) -> u16
     let mut sum = start;
     for (l, weighed) in block.iter().enumerate() {
         sum = field::sum(sum, *weighed);
+        // Not `output.as_chunks_mut().0[i + l] = sum.to_le_bytes()`: nothing is said of what the output of an `as_chunks_mut` then holds.
         signature::put_two_bytes(usize::from(sum), output, (i + l) * 2);
     }
     sum
@@ -114,7 +116,7 @@ fn put_plain(symbols: &[[u8; 2]], output: &mut [u8])
     );
     let mut block = [0u16; 16];
     let mut i = symbols.len();
-    // Not `for done in (0..symbols.len()).step_by(16)`: with it decoding takes 7 % longer.
+    // Not `for done in (0..symbols.len()).step_by(16)`: with it decoding takes 7 % longer. Nor `rchunks`: a change takes the symbol before the part too.
     while i > 0 {
         let n = 16.min(i);
         read_changes(&symbols[..i], &mut block[..n]);
@@ -129,6 +131,7 @@ fn read_changes(symbols: &[[u8; 2]], block: &mut [u16])
     requires { length block.old ≤ length symbols.now }
     ensures { (l : ℕ) → l < length block.old → get_or block.new l 0 ≡ symbol_in symbols.now (length symbols.now - 1 - l) ⊕ code_previous (symbol_in symbols.now) (length symbols.now - 1 - l) }
 {
+    // By a counted place, not `zip` with the places from the last down: as in `read_symbols`.
     for (l, change) in block.iter_mut().enumerate() {
         let here = symbols.len() - 1 - l;
         *change = field::sum(u16::from_le_bytes(symbols[here]), previous(symbols, here));
@@ -152,6 +155,7 @@ fn put_symbols(block: &[u16], i: usize, output: &mut [u8])
     ensures { (s : ℕ → ℕ) → ((l : ℕ) → l < length block.now → get_or block.now l 0 ≡ s (i - 1 - l)) → written output.new 0 (bytes (i - length block.now) s) ≡ written output.old 0 (bytes i s) }
 {
     for (l, symbol) in block.iter().enumerate() {
+        // At a counted place, as in `put_sums`.
         signature::put_two_bytes(usize::from(*symbol), output, (i - 1 - l) * 2);
     }
 }
