@@ -1,4 +1,4 @@
--- A field as pairs of bytes: each pair is a symbol, a part of the pairs has the symbols of its place, and what is made of the pairs is what is made of the field.
+-- A field as pairs of bytes: each pair is a symbol, so that what is made of the pairs is what is made of the field; and how the pairs of a part stand in the whole.
 -- Assumes nothing.
 use mathlib.Core.Path.{◌≡◌, refl, sym, ap, ap₂, ◌∙◌}
 use mathlib.Core.List.{List, [], ◌++◌}
@@ -24,7 +24,7 @@ use Rattle.caption.proofs.Rows.{row_same}
 
 -- the symbols of a part
 
-pub symbol_front : (i : ℕ) (pairs : List (List ℕ)) (l : ℕ) → l < i → symbol_in (take i pairs) l ≡ symbol_in pairs l
+symbol_front : (i : ℕ) (pairs : List (List ℕ)) (l : ℕ) → l < i → symbol_in (take i pairs) l ≡ symbol_in pairs l
 symbol_front i pairs l below = ap (from_le_bytes w16) (get_or-take i pairs l [] below)
 
 -- what the last of the first i symbols add to the code
@@ -42,10 +42,10 @@ chunk_at (suc n) (suc i) bytes h = chunk_at n i (drop 2 bytes) (omega (arith, h)
 
 module _ (caption : List ℕ) (even : length caption % 2 ≡ 0) {pairs : List (List ℕ)} (front : pairs ≡ first_chunks 2 (length caption / 2) caption)
     (count : length pairs ≡ length caption / 2) where
-  pub pairs_count : length pairs ≡ symbols 2 caption
+  pairs_count : length pairs ≡ symbols 2 caption
   pairs_count = omega (arith, count, even)
 
-  pub pairs_symbol : (i : ℕ) → i < length pairs → symbol_in pairs i ≡ symbol 2 caption i
+  pairs_symbol : (i : ℕ) → i < length pairs → symbol_in pairs i ≡ symbol 2 caption i
   unfolding symbol low_first
   pairs_symbol i inside =
       ap (λ (xs : List (List ℕ)). symbol_in xs i) front
