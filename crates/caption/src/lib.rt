@@ -1,9 +1,8 @@
 // Caption fields in the cumulative code: a field encoded, decoded, and searched for a plain pattern as it stands, without decoding.
 #![tactic(auto)]
 
-ghost use Rattle.std.specs.Prelude.{Bool, false, List, ◌≡◌, ℕ, ◌+◌, ◌-◌, ◌*◌, ◌%◌, ◌≤◌, ◌<◌, eqb, length, get_or, set};
+ghost use Rattle.std.specs.Prelude.{Bool, false, List, ◌≡◌, ℕ, ◌+◌, ◌-◌, ◌*◌, ◌≤◌, ◌<◌, length, get_or, set};
 ghost use Rattle.units.specs.Filling.{outcome_of};
-ghost use Rattle.units.specs.Naming.{named};
 ghost use Rattle.units.specs.Refusals.{first};
 ghost use Rattle.units.specs.Writing.{written};
 ghost use Rattle.units.specs.Refusals.{allowed};
@@ -11,8 +10,8 @@ ghost use Rattle.field.specs.Field.{GF16, ◌⊕◌};
 ghost use Rattle.signature.specs.Objects.{symbols as object_symbols};
 ghost use Rattle.caption.specs.Codes.{coded, plain, previous as code_previous, places as code_places};
 ghost use Rattle.caption.specs.Pairs.{symbol_in, found_in};
-ghost use Rattle.caption.specs.Recoding.{bytes, encoded, decoded, too_long, recode_tests, encoding, decoding};
-ghost use Rattle.caption.specs.Searches.{found, places_for, searched_of, search_unless, search_tests, searching};
+ghost use Rattle.caption.specs.Recoding.{bytes, too_long, recode_tests, encoding, decoding};
+ghost use Rattle.caption.specs.Searches.{searched_of, search_unless, search_tests, searching};
 
 use units::{Bytes, Refusal, Symbols};
 
