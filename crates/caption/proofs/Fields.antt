@@ -19,16 +19,16 @@ use Rattle.caption.proofs.Rows.{row_length, row_octets, row_symbols, row_symbol,
 
 -- what agrees in the first m symbols has the same code and the same plain symbols there
 
-previous_below : (m : ℕ) (c d : ℕ → ℕ) → ((i : ℕ) → i < m → c i ≡ d i) → (i : ℕ) → i ≤ m → previous c i ≡ previous d i
+pub previous_below : (m : ℕ) (c d : ℕ → ℕ) → ((i : ℕ) → i < m → c i ≡ d i) → (i : ℕ) → i ≤ m → previous c i ≡ previous d i
 previous_below m c d same zero inside = refl
 previous_below m c d same (suc i) inside = same i (omega arith)
 
 module _ (e m : ℕ) (p q : ℕ → ℕ) (same : (i : ℕ) → i < m → p i ≡ q i) where
-  coded_below : (i : ℕ) → i < m → coded GF16 e p i ≡ coded GF16 e q i
+  pub coded_below : (i : ℕ) → i < m → coded GF16 e p i ≡ coded GF16 e q i
   unfolding coded
   coded_below i inside = total_same (suc i) _ _ (λ k below. ap (λ (x : ℕ). product GF16 x (weight GF16 e k)) (same k (omega arith)))
 
-  plain_below : (i : ℕ) → i < m → plain GF16 e p i ≡ plain GF16 e q i
+  pub plain_below : (i : ℕ) → i < m → plain GF16 e p i ≡ plain GF16 e q i
   unfolding plain
   plain_below i inside =
       ap₂ (λ (x y : ℕ). product GF16 (x ⊕ y) (unweight GF16 e i)) (same i inside) (previous_below m p q same i (omega arith))

@@ -2,7 +2,9 @@
 pub mod Codes
 pub mod Rows
 pub mod Turns
+pub mod Listing
 pub mod Fields
+pub mod Pairs
 pub mod Finding
 pub mod Allowing
 pub mod Answers

@@ -1,11 +1,9 @@
--- What a turn of the loops over blocks does: places are passed by, one or many, and a block is read and weighed.
+-- What a turn of the loops over blocks does: a block is read and weighed.
 -- Assumes nothing.
-use mathlib.Core.Path.{◌≡◌, sym, ap₂, ◌∙◌, subst}
-use mathlib.Core.Bool.{Bool, false}
+use mathlib.Core.Path.{◌≡◌, ap₂, ◌∙◌}
 use mathlib.Core.List.{List, ◌++◌}
 use lib.ListN.{length, get_or, take, drop, length-append, get_or-append}
-use Prim.Native.Nat.{ℕ, zero, suc, ◌+◌, ◌≤◌, ◌<◌, min}
-use native.Mathlib.Nat.{add-zero}
+use Prim.Native.Nat.{ℕ, ◌≤◌, ◌<◌, min}
 use native.Mathlib.Omega.{arith}
 use Rattle.std.specs.Ordering.{ord_min, nat_cmp}
 use Rattle.std.proofs.Common.{rules}
@@ -13,20 +11,6 @@ use Rattle.std.proofs.lemmas.List.{length-take-le, length-drop, get_or-take}
 use Rattle.weights.specs.Blocks.{Set}
 use Rattle.weights.proofs.Turns.{in_both}
 use Rattle.field.specs.Field.{GF16, product}
-use Rattle.units.proofs.Noting.{Noted, noted_passed}
-
--- a turn's list and count, by whichever way they came
-pub again : {test : ℕ → Bool} {old : List ℕ} {k : ℕ} {list new : List ℕ} {found count : ℕ} → list ≡ new → found ≡ count
-    → Noted test old k new count → Noted test old k list found
-again l f n = record { list_is = l ∙ n.list_is; found_is = f ∙ n.found_is }
-
--- n places passed by
-pub all_passed : {test : ℕ → Bool} {old : List ℕ} {i : ℕ} {list : List ℕ} {found : ℕ} (n : ℕ) → Noted test old i list found
-    → ((k : ℕ) → k < n → test (i + k) ≡ false) → Noted test old (i + n) list found
-all_passed {test} {old} {i} {list} {found} zero s none = subst (λ (k : ℕ). Noted test old k list found) (sym (add-zero i)) s
-all_passed {i = i} (suc n) s none =
-    let up : i + suc n ≡ suc (i + n) = omega arith in
-    noted_passed (all_passed n s (λ k h. none k (omega (arith, h)))) up (none n (omega arith))
 
 -- the library's lesser of two numbers
 pub lesser : {r : ℕ} (a b : ℕ) → r ≡ ord_min nat_cmp a b → r ≡ min a b

@@ -1,26 +1,26 @@
 // Caption fields in the cumulative code: a field encoded, decoded, and searched for a plain pattern as it stands, without decoding.
 #![tactic(auto)]
 
-ghost use Rattle.std.specs.Prelude.{Bool, false, List, ◌≡◌, ℕ, ◌+◌, ◌-◌, ◌*◌, ◌%◌, ◌≤◌, ◌<◌, eqb, length, get_or};
+ghost use Rattle.std.specs.Prelude.{Bool, false, List, ◌≡◌, ℕ, ◌+◌, ◌-◌, ◌*◌, ◌≤◌, ◌<◌, length, get_or, set};
 ghost use Rattle.units.specs.Filling.{outcome_of};
-ghost use Rattle.units.specs.Naming.{named};
 ghost use Rattle.units.specs.Refusals.{first};
 ghost use Rattle.units.specs.Writing.{written};
 ghost use Rattle.units.specs.Refusals.{allowed};
-ghost use Rattle.field.specs.Field.{◌⊕◌};
-ghost use Rattle.signature.specs.Objects.{symbol as object_symbol, symbols as object_symbols};
-ghost use Rattle.caption.specs.Codes.{previous as code_previous};
-ghost use Rattle.caption.specs.Recoding.{bytes, encoded, decoded, too_long, recode_tests, encoding, decoding};
-ghost use Rattle.caption.specs.Searches.{found, places_for, searched_of, search_unless, search_tests, searching};
+ghost use Rattle.field.specs.Field.{GF16, ◌⊕◌};
+ghost use Rattle.signature.specs.Objects.{symbols as object_symbols};
+ghost use Rattle.caption.specs.Codes.{coded, plain, previous as code_previous, places as code_places};
+ghost use Rattle.caption.specs.Pairs.{symbol_in, found_in};
+ghost use Rattle.caption.specs.Recoding.{bytes, too_long, recode_tests, encoding, decoding};
+ghost use Rattle.caption.specs.Searches.{searched_of, search_unless, search_tests, searching};
 
-use units::{Bytes, Refusal};
+use units::{Bytes, Refusal, Symbols};
 
 // The code of a plain field, written to the start of the output. Three lines as in `decode`: one function for both would need a longer contract, on what it is to put.
 pub fn encode(caption: &[u8], output: &mut [u8]) -> Result<Bytes, Refusal>
     ensures { outcome_of result output.new ≡ encoding 0 caption.now output.old }
 {
     recode_verdict(caption, output)?;
-    put_code(caption, output);
+    put_code(caption.as_chunks().0, output);
     Ok(Bytes {
         count: caption.len(),
     })
@@ -31,7 +31,7 @@ pub fn decode(caption: &[u8], output: &mut [u8]) -> Result<Bytes, Refusal>
     ensures { outcome_of result output.new ≡ decoding 0 caption.now output.old }
 {
     recode_verdict(caption, output)?;
-    put_plain(caption, output);
+    put_plain(caption.as_chunks().0, output);
     Ok(Bytes {
         count: caption.len(),
     })
@@ -58,40 +58,32 @@ fn too_long(caption: &[u8]) -> bool
     !units::caption_allowed(signature::symbols_in(caption))
 }
 
-// Upward, a block at a time: the sum is the code so far.
-fn put_code(caption: &[u8], output: &mut [u8])
-    requires { (length caption.now % 2 ≡ 0) × (length caption.now ≤ length output.old) }
-    ensures { output.new ≡ written output.old 0 (encoded 0 caption.now) }
+// Upward, a block at a time: the sum is the code's last symbol so far.
+fn put_code(symbols: &[[u8; 2]], output: &mut [u8])
+    requires { length symbols.now * 2 ≤ length output.old }
+    ensures { output.new ≡ written output.old 0 (bytes (length symbols.now) (coded GF16 0 (symbol_in symbols.now))) }
 {
-    let count = signature::symbols_in(caption).count;
     let mut weights = [0u16; 16];
     weights::put_weights(1, &mut weights);
     let mut block = [0u16; 16];
     let mut sum: u16 = 0;
-    for i in (0..count).step_by(16) {
-        let n = 16.min(count - i);
-        read_symbols(caption, i, &mut block[..n]);
+    for (k, part) in symbols.chunks(16).enumerate() {
+        let n = part.len();
+        read_symbols(part, &mut block[..n]);
         weights::weigh(&mut block, &mut weights);
-        sum = put_sums(&block[..n], sum, i, output);
+        sum = put_sums(&block[..n], sum, k * 16, output);
     }
 }
 
-// The symbols from place i on, as many as the block takes.
-fn read_symbols(caption: &[u8], i: usize, block: &mut [u16])
-    requires { (i + length block.old) * 2 ≤ length caption.now }
-    ensures { (l : ℕ) → l < length block.old → get_or block.new l 0 ≡ object_symbol 2 caption.now (i + l) }
+// The first symbols, as many as the block takes.
+fn read_symbols(symbols: &[[u8; 2]], block: &mut [u16])
+    requires { length block.old ≤ length symbols.now }
+    ensures { (l : ℕ) → l < length block.old → get_or block.new l 0 ≡ symbol_in symbols.now l }
 {
+    // By places, not `block.iter_mut().zip(symbols)`: of what an `iter_mut` in a `zip` writes, the proof knows nothing at the end.
     for (l, symbol) in block.iter_mut().enumerate() {
-        *symbol = symbol_at(caption, i + l);
+        *symbol = u16::from_le_bytes(symbols[l]);
     }
-}
-
-// The symbol at a place that has both its bytes.
-fn symbol_at(caption: &[u8], i: usize) -> u16
-    requires { i * 2 + 1 < length caption.now }
-    ensures { result ≡ object_symbol 2 caption.now i }
-{
-    u16::from_le_bytes([caption[i * 2], caption[i * 2 + 1]])
 }
 
 // The code from place i on, by the weighed symbols that each add to the sum. Its last symbol is the answer.
@@ -102,54 +94,58 @@ fn put_sums(block: &[u16], start: u16, i: usize, output: &mut [u8]) -> u16
     let mut sum = start;
     for (l, weighed) in block.iter().enumerate() {
         sum = field::sum(sum, *weighed);
+        // Not `output.as_chunks_mut().0[i + l] = sum.to_le_bytes()`: nothing is said of what the output of an `as_chunks_mut` then holds.
         signature::put_two_bytes(usize::from(sum), output, (i + l) * 2);
     }
     sum
 }
 
 // Downward, a block at a time: what undoes the weights is then doubled from place to place as weights are.
-fn put_plain(caption: &[u8], output: &mut [u8])
-    requires { (length caption.now % 2 ≡ 0) × (length caption.now ≤ length output.old) }
-    ensures { output.new ≡ written output.old 0 (decoded 0 caption.now) }
+fn put_plain(symbols: &[[u8; 2]], output: &mut [u8])
+    requires { length symbols.now * 2 ≤ length output.old }
+    ensures { output.new ≡ written output.old 0 (bytes (length symbols.now) (plain GF16 0 (symbol_in symbols.now))) }
 {
-    let all = signature::symbols_in(caption);
+    let all = Symbols {
+        count: symbols.len(),
+    };
     let mut unweights = [0u16; 16];
     weights::put_weights(
         field::double(field::times_power(1, units::exponent_back(all))),
         &mut unweights,
     );
     let mut block = [0u16; 16];
-    let mut i = all.count;
-    // Not `for done in (0..all.count).step_by(16)`: with it decoding takes 7 % longer.
+    let mut i = symbols.len();
+    // Not `for done in (0..symbols.len()).step_by(16)`: with it decoding takes 7 % longer. Nor `rchunks`: a change takes the symbol before the part too.
     while i > 0 {
         let n = 16.min(i);
-        read_changes(caption, i, &mut block[..n]);
+        read_changes(&symbols[..i], &mut block[..n]);
         weights::weigh(&mut block, &mut unweights);
         put_symbols(&block[..n], i, output);
         i -= n;
     }
 }
 
-// What each symbol below place i adds to the code, downward, as many as the block takes.
-fn read_changes(caption: &[u8], i: usize, block: &mut [u16])
-    requires { (i * 2 ≤ length caption.now) × (length block.old ≤ i) }
-    ensures { (l : ℕ) → l < length block.old → get_or block.new l 0 ≡ object_symbol 2 caption.now (i - 1 - l) ⊕ code_previous (object_symbol 2 caption.now) (i - 1 - l) }
+// What each of the last symbols adds to the code, downward, as many as the block takes.
+fn read_changes(symbols: &[[u8; 2]], block: &mut [u16])
+    requires { length block.old ≤ length symbols.now }
+    ensures { (l : ℕ) → l < length block.old → get_or block.new l 0 ≡ symbol_in symbols.now (length symbols.now - 1 - l) ⊕ code_previous (symbol_in symbols.now) (length symbols.now - 1 - l) }
 {
+    // By a counted place, not `zip` with the places from the last down: as in `read_symbols`.
     for (l, change) in block.iter_mut().enumerate() {
-        let here = i - 1 - l;
-        *change = field::sum(symbol_at(caption, here), previous(caption, here));
+        let here = symbols.len() - 1 - l;
+        *change = field::sum(u16::from_le_bytes(symbols[here]), previous(symbols, here));
     }
 }
 
 // Symbol i - 1 of a code, where symbol -1 is 0.
-fn previous(caption: &[u8], i: usize) -> u16
-    requires { i * 2 ≤ length caption.now }
-    ensures { result ≡ code_previous (object_symbol 2 caption.now) i }
+fn previous(symbols: &[[u8; 2]], i: usize) -> u16
+    requires { i ≤ length symbols.now }
+    ensures { result ≡ code_previous (symbol_in symbols.now) i }
 {
     if i == 0 {
         return 0;
     }
-    symbol_at(caption, i - 1)
+    u16::from_le_bytes(symbols[i - 1])
 }
 
 // The symbols of the block below place i, downward.
@@ -158,6 +154,7 @@ fn put_symbols(block: &[u16], i: usize, output: &mut [u8])
     ensures { (s : ℕ → ℕ) → ((l : ℕ) → l < length block.now → get_or block.now l 0 ≡ s (i - 1 - l)) → written output.new 0 (bytes (i - length block.now) s) ≡ written output.old 0 (bytes i s) }
 {
     for (l, symbol) in block.iter().enumerate() {
+        // At a counted place, as in `put_sums`.
         signature::put_two_bytes(usize::from(*symbol), output, (i - 1 - l) * 2);
     }
 }
@@ -167,7 +164,7 @@ pub fn search(caption: &[u8], pattern: &[u8], list: &mut [usize]) -> Result<usiz
     ensures { searched_of result list.new ≡ searching 0 caption.now pattern.now list.old }
 {
     search_verdict(caption, pattern, list)?;
-    find(caption, pattern, list)
+    find(caption.as_chunks().0, pattern, list)
 }
 
 fn search_verdict(caption: &[u8], pattern: &[u8], list: &[usize]) -> Result<(), Refusal>
@@ -179,7 +176,10 @@ fn search_verdict(caption: &[u8], pattern: &[u8], list: &[usize]) -> Result<(), 
     if caption.len() % 2 != 0 || pattern.len() % 2 != 0 {
         return Err(Refusal::Odd);
     }
-    let needed = places(caption, pattern);
+    let needed = places(
+        signature::symbols_in(caption).count,
+        signature::symbols_in(pattern).count,
+    );
     if list.len() < needed {
         return Err(Refusal::Room(needed));
     }
@@ -189,59 +189,57 @@ fn search_verdict(caption: &[u8], pattern: &[u8], list: &[usize]) -> Result<(), 
     Ok(())
 }
 
-// How many places there are for the pattern in the field.
-fn places(caption: &[u8], pattern: &[u8]) -> usize
-    ensures { result ≡ places_for caption.now pattern.now }
+// How many places there are for a pattern of l symbols in a field of m.
+fn places(m: usize, l: usize) -> usize
+    ensures { result ≡ code_places m l }
 {
-    let m = signature::symbols_in(caption).count;
-    let l = signature::symbols_in(pattern).count;
     if 1 <= l && l <= m { m - l + 1 } else { 0 }
 }
 
 // One comparison a place: what it is compared with is the pattern's signature, weighted as symbols are. A pattern with no place is not signed.
-fn find(caption: &[u8], pattern: &[u8], list: &mut [usize]) -> Result<usize, Refusal>
-    requires { (length caption.now % 2 ≡ 0) × (places_for caption.now pattern.now ≤ length list.old) }
-    ensures { searched_of result list.new ≡ search_unless allowed (found 0 caption.now pattern.now) list.old }
+fn find(symbols: &[[u8; 2]], pattern: &[u8], list: &mut [usize]) -> Result<usize, Refusal>
+    requires { code_places (length symbols.now) (object_symbols 2 pattern.now) ≤ length list.old }
+    ensures { searched_of result list.new ≡ search_unless allowed (found_in symbols.now pattern.now) list.old }
 {
-    let count = places(caption, pattern);
+    let l = signature::symbols_in(pattern).count;
+    let count = places(symbols.len(), l);
     if count == 0 {
         return Ok(0);
     }
-    let l = signature::symbols_in(pattern).count;
     let mut weighed = [0u16; 16];
     weights::put_weights(signature::own(1, pattern).s1, &mut weighed);
-    let mut found: usize = 0;
+    let mut hits = Hits { list, found: 0 };
     let mut i: usize = 0;
     // Not `for i in (0..count).step_by(16)`: with it a search takes 7 % longer, as a step looks for the end twice.
     while i < count {
         let n = 16.min(count - i);
         let block = Block {
-            caption,
+            symbols,
             l,
             i,
             weighed: &weighed[..n],
         };
         if block.may_hit() {
-            found = block.note(list, found);
+            block.note(&mut hits);
         }
         weights::move_on(&mut weighed);
         i += n;
     }
-    Ok(found)
+    Ok(hits.found)
 }
 
 // A block of a code's places, from i on and as many as are weighed: where the pattern hits, the l symbols there add up to what is weighed for the place.
 #[derive(Clone, Copy)]
 struct Block<'a> {
-    caption: &'a [u8],
+    symbols: &'a [[u8; 2]],
     l: usize,
     i: usize,
     weighed: &'a [u16],
-    ghost inside: { (i + length weighed.now + l) * 2 ≤ length caption.now + 2 },
+    ghost inside: { i + length weighed.now + l ≤ length symbols.now + 1 },
 }
 
 impl Block<'_> {
-    ghost use Rattle.caption.specs.Blocks.{after, hit_at};
+    ghost use Rattle.caption.specs.Blocks.{after, summed, hit_at, Notes};
 
     // Whether some place may be hit. Before place 0 there is no symbol to read, so that all may be.
     fn may_hit(&self) -> bool
@@ -254,37 +252,53 @@ impl Block<'_> {
         let mut some = false;
         for (k, weighed) in self.weighed.iter().enumerate() {
             some |= field::sum(
-                symbol_at(self.caption, self.i + k + self.l - 1),
-                symbol_at(self.caption, self.i + k - 1),
+                u16::from_le_bytes(self.symbols[self.i + k + self.l - 1]),
+                u16::from_le_bytes(self.symbols[self.i + k - 1]),
             ) == *weighed;
         }
         some
     }
 
     // The hits among the places, listed after those before them.
-    fn note(&self, list: &mut [usize], before: usize) -> usize
-        requires { (after self.now ≤ length list.old) × (before ≤ self.now.i) }
-        ensures { (test : ℕ → Bool) (old : List ℕ) → length old ≡ length list.old → ((k : ℕ) → k < length self.now.weighed.now → test (self.now.i + k) ≡ hit_at self.now k) → list.old ≡ written old 0 (named test self.now.i) → before ≡ length (named test self.now.i) → (list.new ≡ written old 0 (named test (after self.now))) × (result ≡ length (named test (after self.now))) }
+    fn note(&self, hits: &mut Hits<'_>)
+        requires { (after self.now ≤ length hits.old.list.now) × (hits.old.found ≤ self.now.i) }
+        ensures noted { (test : ℕ → Bool) (old : List ℕ) → length old ≡ length hits.old.list.now → ((k : ℕ) → k < length self.now.weighed.now → test (self.now.i + k) ≡ hit_at self.now k) → Notes test old self.now.i hits.old → Notes test old (after self.now) hits.new }
+        ensures same_list { hits.new.list.ghost_name ≡ hits.old.list.ghost_name }
     {
-        let mut found = before;
-        for k in 0..self.weighed.len() {
-            if self.hits(k) {
-                list[found] = self.i + k;
-                found += 1;
+        for (k, weighed) in self.weighed.iter().enumerate() {
+            if self.summed(k) == *weighed {
+                hits.push(self.i + k);
             }
         }
-        found
     }
 
-    // Whether the pattern hits at place i + k.
-    fn hits(&self, k: usize) -> bool
+    // What the l symbols at place i + k add up to, weighted as they are in the code.
+    fn summed(&self, k: usize) -> u16
         requires { k < length self.now.weighed.now }
-        ensures { result ≡ hit_at self.now k }
+        ensures { result ≡ summed self.now k }
     {
         let i = self.i + k;
         field::sum(
-            previous(self.caption, i + self.l),
-            previous(self.caption, i),
-        ) == self.weighed[k]
+            previous(self.symbols, i + self.l),
+            previous(self.symbols, i),
+        )
+    }
+}
+
+// A list, and how many places stand at its start: those where the pattern hits.
+#[derive(Drop)]
+struct Hits<'a> {
+    list: &'a mut [usize],
+    found: usize,
+}
+
+impl Hits<'_> {
+    fn push(&mut self, place: usize)
+        requires { self.old.found < length self.old.list.now }
+        ensures pushed { (self.new.list.now ≡ set self.old.list.now self.old.found place) × (self.new.found ≡ self.old.found + 1) }
+        ensures same_list { self.new.list.ghost_name ≡ self.old.list.ghost_name }
+    {
+        self.list[self.found] = place;
+        self.found += 1;
     }
 }

@@ -4,25 +4,26 @@ use mathlib.Core.Path.{◌≡◌}
 use mathlib.Core.Bool.{Bool}
 use mathlib.Core.List.{List}
 use Prim.Native.Nat.{ℕ, ◌+◌, ◌-◌, ◌≤◌, ◌<◌}
-use lib.ListN.{get_or}
-use Rattle.units.proofs.Noting.{Noted}
+use lib.ListN.{get_or, length}
 use Rattle.field.specs.Field.{GF16, product}
 use Rattle.signature.specs.Signatures.{signature}
 use Rattle.signature.specs.Objects.{symbol, symbols}
-use Rattle.caption.specs.Searches.{places_for}
-use Rattle.caption.specs.Codes.{weight, hit}
+use Rattle.caption.specs.Codes.{weight, hit, places}
+use Rattle.caption.specs.Pairs.{symbol_in}
+use Rattle.caption.specs.Blocks.{Notes}
 use Rattle.caption.proofs.find.Given as goal
 
 -- whether the pattern hits at a place
-unfoldable pub hitting : List ℕ → List ℕ → ℕ → Bool
-hitting caption pattern = hit GF16 0 (symbol 2 caption) (symbols 2 pattern) (symbol 2 pattern)
+unfoldable pub hitting : List (List ℕ) → List ℕ → ℕ → Bool
+hitting pairs pattern = hit GF16 0 (symbol_in pairs) (symbols 2 pattern) (symbol 2 pattern)
 
 abbrev pub invariant-loop-i : goal.invariant-loop-i
 invariant-loop-i l =
     record {
-      inside : l.i ≤ places_for l.caption l.pattern;
-      weighed_is : l.i < places_for l.caption l.pattern → (k : ℕ) → k < 16 → get_or l.weighed k 0 ≡ product GF16 (signature GF16 2 l.pattern 1) (weight GF16 0 (l.i + k));
-      noted : Noted (hitting l.caption l.pattern) l.initial.list l.i l.list l.found;
+      inside : l.i ≤ places (length l.symbols) (symbols 2 l.pattern);
+      weighed_is : l.i < places (length l.symbols) (symbols 2 l.pattern) → (k : ℕ) → k < 16 → get_or l.weighed k 0 ≡ product GF16 (signature GF16 2 l.pattern 1) (weight GF16 0 (l.i + k));
+      same_list : l.hits.list.ghost_name ≡ l.initial.hits.list.ghost_name;
+      noted : Notes (hitting l.symbols l.pattern) l.initial.hits.list.now l.i l.hits;
     }
 
 abbrev pub decreases-loop-i : goal.decreases-loop-i

@@ -2,12 +2,12 @@
 -- Assumes nothing.
 use mathlib.Core.Path.{◌≡◌}
 use Prim.Native.Nat.{ℕ, ◌-◌, ◌<◌}
-use lib.ListN.{get_or}
+use lib.ListN.{get_or, length}
 use Rattle.field.specs.Field.{◌⊕◌}
-use Rattle.signature.specs.Objects.{symbol}
+use Rattle.caption.specs.Pairs.{symbol_in}
 use Rattle.caption.specs.Codes.{previous}
 use Rattle.caption.proofs.read_changes.Given as goal
 
 abbrev pub invariant-loop-l : goal.invariant-loop-l
 invariant-loop-l l =
-    (k : ℕ) → k < l.l → get_or l.block k 0 ≡ symbol 2 l.caption (l.i - 1 - k) ⊕ previous (symbol 2 l.caption) (l.i - 1 - k)
+    (k : ℕ) → k < l.l → get_or l.block k 0 ≡ symbol_in l.symbols (length l.symbols - 1 - k) ⊕ previous (symbol_in l.symbols) (length l.symbols - 1 - k)
