@@ -21,8 +21,8 @@ pub fn open(one: Bytes, other: Bytes, map: &[u8]) -> Result<Header, Refusal>
     Ok(h)
 }
 
-#[tactic(auto, using(crate::proofs::Sameness::same_by_parts))]
 // The derived comparison; this stays for what is promised of it, `same_one_answer`.
+#[tactic(auto, using(crate::proofs::Sameness::same_by_parts))]
 pub fn same(a: Signature, b: Signature) -> bool
     ensures { result ≡ backup_same a b }
 {

@@ -248,7 +248,7 @@ impl Block<'_> {
         if self.i == 0 {
             return true;
         }
-        // Every place is looked at: with no early way out, many are compared at once.
+        // Every place is looked at: with no early way out, many are compared at once. By a counted place: the code is read at two.
         let mut some = false;
         for (k, weighed) in self.weighed.iter().enumerate() {
             some |= field::sum(

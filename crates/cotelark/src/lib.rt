@@ -78,6 +78,7 @@ pub extern "C" fn cotelark_make_map(
     replies::filled(map::make(n, Bytes { count: page }, bucket, output), value)
 }
 
+// What the header says, through a pointer each, as C takes it.
 #[unsafe(no_mangle)]
 pub extern "C" fn cotelark_read_map(
     map: &[u8],

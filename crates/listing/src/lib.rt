@@ -34,7 +34,7 @@ fn width(x: usize) -> usize
 }
 
 // The last digits of x in all the places, from the lowest up.
-// By index: an invariant cannot name what a loop over `iter_mut().rev()` has written.
+// By index: over `iter_mut().rev()` the proof did not close, since an invariant cannot name what is written.
 fn fill_digits(base: usize, x: usize, places: &mut [u8])
     requires { (1 ≤ base) × (base ≤ 16) }
     ensures { places.new ≡ digits base (length places.old) x }

@@ -13,7 +13,8 @@ ghost use Rattle.reader.specs.Fields.{field_at, is_due};
 ghost use Rattle.map.specs.Reading.{header_of, header_tests, entry_tests, told, reading, entry_at};
 
 pub use making::{component, make, page_at, put_entry};
-use reader::{Reader, Tagged};
+pub use reader::ENTRY_TAG;
+use reader::{BUCKET_TAG, N_TAG, PAGE_TAG, Reader, Tagged};
 use signature::Signature;
 use std::error::Error;
 use std::{array, fmt};
@@ -21,15 +22,6 @@ use units::{Bytes, Refusal};
 
 // The three fields before the first entry.
 pub const HEADER_BYTES: usize = 18;
-
-// The tags of the fields, in the order of the file.
-const N_TAG: u8 = 1;
-
-const PAGE_TAG: u8 = 2;
-
-const BUCKET_TAG: u8 = 3;
-
-pub const ENTRY_TAG: u8 = 4;
 
 #[derive(Clone, Copy, Debug, PartialEq, Eq, Hash)]
 pub struct Header {
@@ -73,6 +65,7 @@ fn four_bytes(map: &[u8], at: usize) -> usize
     requires { at + 3 < 2 ^ 64 }
     ensures { result ≡ low_first 4 map.now at }
 {
+    // `as`, since there is no `From<u32>` for `usize`
     u32::from_le_bytes(array::from_fn(|i| signature::byte(map, Bytes { count: at + i }))) as usize
 }
 
@@ -196,5 +189,5 @@ fn component_at(n: usize, j: usize, map: &[u8], at: usize) -> u16
     if n < j {
         return 0;
     }
-    signature::two_bytes(map, at + 1 + 2 * j) as u16
+    signature::pair(map, at + 1 + 2 * j)
 }

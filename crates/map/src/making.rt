@@ -51,7 +51,7 @@ pub fn component(s: Signature, j: usize) -> u16
     }
 }
 
-// By index: nothing is known of what the output holds after a loop over its `chunks_exact_mut`.
+// By index: over its `chunks_exact_mut` the proof did not close, since nothing is known of what the output then holds.
 fn put_components(s: Signature, output: &mut [u8])
     requires { length output.old ≡ 2 * s.n }
     ensures { output.new ≡ file_components s.n (handed s) }

@@ -112,7 +112,7 @@ pub fn print_line<D: Display + Drop>(what: D)
     let _ = Output.writeln(what);
 }
 
-// What a line is about. Of bytes here and in the next, as it was: a `&str` would ask more of callers.
+// What a line is about. A label is bytes, here and wherever one is taken, as it was: a `&str` would ask more of callers.
 pub fn about(what: &[u8])
     ensures { result ≡ tt }
 {

@@ -7,7 +7,16 @@ ghost use Rattle.reader.specs.Readers.{reader_at, advanced_of, advancing};
 
 use units::Symbols;
 
-// A field that keeps its tag's rule: where its value stands, and where the next field begins. The tag is the file's own byte, as `field_at` has it, and no enum.
+// The tags of a map's fields, in the order of the file. A tag is the file's own byte, and no enum: any byte may stand there.
+pub const N_TAG: u8 = 1;
+
+pub const PAGE_TAG: u8 = 2;
+
+pub const BUCKET_TAG: u8 = 3;
+
+pub const ENTRY_TAG: u8 = 4;
+
+// A field that keeps its tag's rule: where its value stands, and where the next field begins.
 #[derive(Clone, Copy, Debug, PartialEq, Eq, Hash)]
 pub struct Tagged {
     pub tag: u8,
@@ -48,9 +57,9 @@ impl<'a> Reader<'a> {
         }
         match self.bytes[self.place] {
             0 => None,
-            1 => self.under_rule(1),
-            2 | 3 => self.under_rule(4),
-            4 => self.under_rule(units::bytes_of(Symbols { count: n }).count),
+            N_TAG => self.under_rule(1),
+            PAGE_TAG | BUCKET_TAG => self.under_rule(4),
+            ENTRY_TAG => self.under_rule(units::bytes_of(Symbols { count: n }).count),
             5..=255 => None,
         }
     }

@@ -45,7 +45,7 @@ pub fn repair_page(image: &mut [u8], map: &[u8], k: usize) -> Result<Repair, Ref
     repair_on(h, image, map, k)
 }
 
-// The same on a backup that was opened.
+// The same on a backup that was opened: this one function has its parts, and a struct for them would be no plainer.
 #[tactic(auto, using(crate::proofs::Mending::open_thin_as))]
 fn repair_on(h: Header, image: &mut [u8], map: &[u8], k: usize) -> Result<Repair, Refusal>
     requires { (reading map.now ≡ Ok h) × (length image.old ≡ h.bucket.count) }

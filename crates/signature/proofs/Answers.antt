@@ -27,6 +27,7 @@ use Rattle.signature.proofs.symbols_in.Reads as SymbolsIn
 use Rattle.signature.proofs.own.Reads as OwnOfLem
 use Rattle.signature.proofs.symbol.Reads as Symbol
 use Rattle.signature.proofs.two_bytes.Reads as TwoBytes
+use Rattle.signature.proofs.pair.Reads as Pair
 use Rattle.signature.proofs.byte.Reads as Byte
 use Rattle.signature.proofs.put_two_bytes.Reads as PutTwoBytes
 use Rattle.std.specs.Prelude.{Err}
@@ -54,6 +55,9 @@ symbol_one_answer κs a r s x y p q = p ∙ sym q
 
 pub two_bytes_one_answer : OneAnswer TwoBytes.Post
 two_bytes_one_answer κs a r s x y p q = p ∙ sym q
+
+pub pair_one_answer : OneAnswer Pair.Post
+pair_one_answer κs a r s x y p q = p ∙ sym q
 
 pub byte_one_answer : OneAnswer Byte.Post
 byte_one_answer κs a r s x y p q = p ∙ sym q

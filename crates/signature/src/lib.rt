@@ -194,7 +194,8 @@ pub fn two_bytes(object: &[u8], at: usize) -> usize
     usize::from(pair(object, at))
 }
 
-fn pair(object: &[u8], at: usize) -> u16
+// The same as a symbol.
+pub fn pair(object: &[u8], at: usize) -> u16
     ensures { result ≡ low_first 2 object.now at }
 {
     if at >= object.len() {

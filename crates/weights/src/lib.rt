@@ -29,7 +29,7 @@ pub fn weigh(block: &mut [u16], weights: &mut [u16])
     ensures product { Set (λ l. field_product GF16 (get_or block.old l 0) (get_or weights.old l 0)) block.old (min (length block.old) (length weights.old)) block.new }
     ensures weight { Set (λ l. field_product GF16 (get_or weights.old l 0) (field_power GF16 α 16)) weights.old (min (length block.old) (length weights.old)) weights.new }
 {
-    // By places: of what a `zip` of two `iter_mut` writes, a proof knows the lengths alone.
+    // By places: over a `zip` of two `iter_mut` the proof did not close, since it knows no more than the lengths of what is written.
     for l in 0..block.len().min(weights.len()) {
         let (product, next) = weighed(block[l], weights[l]);
         block[l] = product;

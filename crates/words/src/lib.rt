@@ -97,6 +97,7 @@ impl Remainder for Row {
 
     const BYTES: usize = 32;
 
+    // As in the other: a body in the trait would know no length.
     fn whole(object: &[u8]) -> Self {
         words_of(object)
     }
@@ -126,6 +127,7 @@ impl Remainder for LongRow {
 
     const BYTES: usize = 80;
 
+    // As in the other: a body in the trait would know no length.
     fn whole(object: &[u8]) -> Self {
         words_of(object)
     }
