@@ -8,7 +8,7 @@ use native.Mathlib.Nat.{suc-mul, add-suc, add-zero, div-one}
 use native.Mathlib.Omega.{arith}
 use lib.ListN.{length, get_or, take, drop, length-take, length-drop}
 use lib.Seq.{get_or-take, get_or-drop, drop-drop}
-use lib.Pow.{pow_pos, shr-shr, high, low}
+use lib.Pow.{shr-shr, high, low}
 use Rattle.field.specs.Field.{GF16, ◌⊕◌, product, power, α}
 use Rattle.field.proofs.Sums.{sum_zero}
 use Rattle.field.proofs.Instances.{GF16_formed}

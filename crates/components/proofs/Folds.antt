@@ -18,7 +18,7 @@ use Rattle.field.proofs.Reducing.{product_sum, zero_product}
 use Rattle.field.proofs.Products.{Formed}
 use Rattle.components.specs.Components.{component}
 use Rattle.components.specs.Relations.{Relation, summed, gathered}
-use Rattle.components.proofs.Components.{Elements, component_same, component_sum, component_nothing, component_parts, from}
+use Rattle.components.proofs.Components.{Elements, component_same, component_sum, component_nothing, component_parts}
 
 -- ---- sums over offsets
 

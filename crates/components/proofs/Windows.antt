@@ -3,7 +3,7 @@
 -- Assumes nothing.
 use mathlib.Core.Path.{◌≡◌, refl, sym, ap, ap₂, ◌∙◌, fun_ext}
 use mathlib.Core.Logic.{dite}
-use mathlib.Core.List.{List, [], ◌∷◌}
+use mathlib.Core.List.{List, []}
 use Prim.Native.Nat.{ℕ, suc, ◌+◌, ◌-◌, ◌*◌, ◌^◌, ◌≤◌, ◌<◌}
 use native.Mathlib.Nat.{add-suc, add_assoc}
 use native.Mathlib.Decide.{dec_lt}
@@ -12,7 +12,7 @@ use lib.Dec.{T}
 use lib.ListN.{length, get_or, take, drop, length-take, length-drop, get_or-eq_default}
 use lib.Seq.{get_or-take, get_or-drop}
 use Rattle.field.specs.Field.{◌⊕◌, product, power, α, GF16}
-use Rattle.field.proofs.Sums.{zero_sum, sum_assoc, sum_self, sum_zero}
+use Rattle.field.proofs.Sums.{sum_assoc, sum_self, sum_zero}
 use Rattle.field.proofs.Instances.{GF16_formed}
 use Rattle.components.specs.Objects.{Octets, low_first, symbol, symbols}
 use Rattle.components.specs.Components.{component, signature}

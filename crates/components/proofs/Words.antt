@@ -1,15 +1,15 @@
 -- Words of four symbols: their components add up, a word that is shifted is moved up by symbols, and the word that a row has too many is replaced by a
 -- relation of α. An object is the row of its words.
 -- Assumes nothing.
-use mathlib.Core.Path.{◌≡◌, refl, sym, ap, ap₂, ◌∙◌, subst}
+use mathlib.Core.Path.{◌≡◌, sym, ap, ap₂, ◌∙◌}
 use mathlib.Core.List.{List, [], ◌∷◌}
 use Prim.Native.Nat.{ℕ, zero, suc, ◌+◌, ◌-◌, ◌*◌, ◌/◌, ◌%◌, ◌^◌, ◌≤◌, ◌<◌}
-use native.Mathlib.Nat.{mod-lt, mul-mod_left, mul-add, mul-one, mul-zero, mul_assoc, add-zero, zero-mul, zero-div, zero-mod, mul_comm, div-eq_of_lt, lt_of_lt_of_le}
+use native.Mathlib.Nat.{mod-lt, mul-mod_left, mul-add, mul-zero, mul_assoc, add-zero, zero-mod, div-eq_of_lt, lt_of_lt_of_le}
 use native.Mathlib.Omega.{arith}
 use lib.Bits.{xor_shr, xor_mod}
 use lib.Pow.{pow_pos, pow-add, pow_mono, mod-pow-add, shl-shr, shr-shr, field, mod-mod-pow}
 use Rattle.field.specs.Field.{GF16, ◌⊕◌, product, power, α}
-use Rattle.field.proofs.Sums.{zero_sum, sum_zero, sum_cross, sum_lt, sum_assoc, equal_of_sum}
+use Rattle.field.proofs.Sums.{zero_sum, sum_zero, sum_cross, sum_lt, equal_of_sum}
 use Rattle.field.proofs.Additive.{Additive, at_zero}
 use Rattle.field.proofs.Reducing.{product_sum, sum_product, zero_product}
 use Rattle.field.proofs.Products.{product_element, product_assoc, product_one}

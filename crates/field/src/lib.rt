@@ -34,7 +34,7 @@ pub fn product(a: u16, b: u16) -> u16
     while y > 0 {
         r = sum(scaled(y % 2, x), r);
         x = double(x);
-        y = y / 2;
+        y /= 2;
     }
     r
 }
@@ -56,7 +56,7 @@ pub fn times_power(a: u16, e: Exponent) -> u16
     while left > 0 {
         r = raised(left % 2, r, s);
         s = product(s, s);
-        left = left / 2;
+        left /= 2;
     }
     r
 }

@@ -31,7 +31,7 @@ pub fn symbols_of(b: Bytes) -> Symbols
     ensures { result.count ≡ symbols_in 2 b.count }
 {
     Symbols {
-        count: b.count / 2 + b.count % 2,
+        count: b.count.div_ceil(2),
     }
 }
 
@@ -39,12 +39,8 @@ pub fn symbols_of(b: Bytes) -> Symbols
 pub fn bytes_of(s: Symbols) -> Bytes
     ensures { result.count ≡ bytes_in 2 s.count }
 {
-    if s.count <= 0x7FFF_FFFF_FFFF_FFFF {
-        Bytes { count: s.count * 2 }
-    } else {
-        Bytes {
-            count: 0xFFFF_FFFF_FFFF_FFFF,
-        }
+    Bytes {
+        count: s.count.saturating_mul(2),
     }
 }
 
@@ -52,15 +48,10 @@ pub fn bytes_of(s: Symbols) -> Bytes
 pub fn pages_of(page: Bytes, bucket: Bytes) -> usize
     ensures { result ≡ pages_in page.count bucket.count }
 {
-    let size = page.count;
-    if size == 0 {
+    if page.count == 0 {
         return 0;
     }
-    let rest = bucket.count % size;
-    if rest == 0 {
-        return bucket.count / size;
-    }
-    bucket.count / size + 1
+    bucket.count.div_ceil(page.count)
 }
 
 // The exponent of α at a position in a component's sum.
@@ -100,16 +91,13 @@ pub const CAPTION_SYMBOLS_MOST: usize = 32_768;
 pub fn n_allowed(n: usize) -> bool
     ensures { result ≡ n_allowed n }
 {
-    1 <= n && n <= N_MOST
+    (1..=N_MOST).contains(&n)
 }
 
 pub fn page_allowed(page: Bytes) -> bool
     ensures { result ≡ page_allowed page.count }
 {
-    if page.count % 2 != 0 {
-        return false;
-    }
-    PAGE_BYTES_LEAST <= page.count && page.count <= PAGE_BYTES_MOST
+    page.count % 2 == 0 && (PAGE_BYTES_LEAST..=PAGE_BYTES_MOST).contains(&page.count)
 }
 
 pub fn object_allowed(object: Symbols) -> bool
