@@ -13,8 +13,7 @@ use Rattle.std.proofs.Common.{below_more}
 use Rattle.field.specs.Field.{◌⊕◌}
 use Rattle.field.proofs.Sums.{sum_zero}
 use Rattle.components.specs.Relations.{summed, gathered}
-use Rattle.components.specs.Windows.{Landed}
-use Rattle.std.proofs.lemmas.List.{take_more, take_all}
+use Rattle.std.proofs.lemmas.List.{take_more}
 use Rattle.fold.specs.Folding.{Added}
 use Rattle.fold.proofs.Fars.{Far_up}
 
@@ -104,7 +103,3 @@ module _ (reach cut : ℕ) (window : List ℕ) where
   landing_more os k before after inside far landing add =
       subst (λ (taken : List ℕ). Landing taken reach cut window after) (sym (take_more os k 0 inside))
       (landing_next (take k os) (get_or os k 0) before after far.low far.past landing add)
-
-  pub landing_all : (os : List ℕ) (after : List ℕ) {k : ℕ} → length os ≤ k → Landing (take k os) reach cut window after → Landed os reach window after
-  landing_all os after {k} all landing =
-      subst (λ (taken : List ℕ). Landed taken reach window after) (take_all k os all) (record { undone = landing.undone })

@@ -4,7 +4,7 @@ use mathlib.Core.Path.{◌≡◌, refl, sym, ap, ap₂, ◌∙◌}
 use mathlib.Core.Logic.{dite}
 use mathlib.Core.List.{List, ◌∷◌, ◌++◌}
 use Prim.Native.Nat.{ℕ, zero, suc, ◌+◌, ◌*◌, ◌/◌, ◌%◌, ◌^◌, ◌≤◌, ◌<◌, min}
-use native.Mathlib.Nat.{add-zero, add-suc, pow-suc, div-div-eq-div-mul, add_assoc, not-suc-le-zero, le_of_suc-le-suc}
+use native.Mathlib.Nat.{add-zero, add-suc, pow-suc, add_assoc, not-suc-le-zero, le_of_suc-le-suc}
 use native.Mathlib.Numerals.{add-one}
 use native.Mathlib.Decide.{dec_lt}
 use native.Mathlib.Omega.{arith}
@@ -71,10 +71,6 @@ pub low_bytes_length : (size x : ℕ) → length (low_bytes size x) ≡ size
 unfolding low_bytes
 low_bytes_length zero x = refl
 low_bytes_length (suc size) x = ap suc (low_bytes_length size (x / 256))
-
-pub low_bytes_halves : (x : ℕ) → low_bytes 4 x ≡ low_bytes 2 x ++ low_bytes 2 (x / 65536)
-unfolding low_bytes
-low_bytes_halves x = simp (div-div-eq-div-mul)
 
 pub two_bytes_put : (x : ℕ) (old : List ℕ) (at : ℕ) → at + 2 ≤ length old → part_put (low_bytes 2 x) old at ≡ written old at (low_bytes 2 x)
 two_bytes_put x old at fits = part_put_lem (low_bytes 2 x) old at (omega (arith, low_bytes_length 2 x))

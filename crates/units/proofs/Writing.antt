@@ -5,7 +5,6 @@ use mathlib.Core.Logic.{◌≢◌}
 use mathlib.Core.List.{List, [], ◌∷◌, ◌++◌, append_assoc, append-nil}
 use Prim.Native.Nat.{ℕ, suc, ◌+◌, ◌-◌, ◌≤◌, ◌<◌}
 use native.Mathlib.Nat.{add-zero, add-suc, suc-add, le_refl}
-use native.Mathlib.Numerals.{add-one}
 use native.Mathlib.Omega.{arith}
 use lib.ListN.{length, get_or, take, drop, set, length-append, length-set, drop_of_length-le, get_or-append}
 use lib.Seq.{drop-drop, sets, sets-eq, length-sets, length-take-le, set_comm, take_at, drop_at, get_or-take, get_or-drop}
@@ -26,13 +25,6 @@ written_none old at fits = written_sets old at [] (omega (arith, add-zero at))
 
 pub written_one : (old : List ℕ) (at x : ℕ) → at < length old → written old at (x ∷ []) ≡ set old at x
 written_one old at x fits = written_sets old at (x ∷ []) (omega arith)
-
--- the first element, then the others
-pub written_cons : (old : List ℕ) (at x : ℕ) (xs : List ℕ) → at + 1 + length xs ≤ length old → written (set old at x) (at + 1) xs ≡ written old at (x ∷ xs)
-written_cons old at x xs fits =
-    written_sets (set old at x) (at + 1) xs (omega (arith, length-set old at x))
-    ∙ ap (λ (k : ℕ). sets (set old at x) k xs) (add-one at)
-    ∙ sym (written_sets old at (x ∷ xs) (omega arith))
 
 sets_append : (xs ys old : List ℕ) (at : ℕ) → sets (sets old at xs) (at + length xs) ys ≡ sets old at (xs ++ ys)
 sets_append [] ys old at = ap (λ (k : ℕ). sets old k ys) (add-zero at)
@@ -85,10 +77,6 @@ written_behind old at xs ys fits =
     ∙ sets_apart ys xs old at (at + length xs) (le_refl (at + length xs))
     ∙ sets_append xs ys old at
     ∙ sym (written_sets old at (xs ++ ys) long)
-
--- the place after a part
-pub put_next : (old new : List ℕ) (at next : ℕ) (xs : List ℕ) → put_of new next ≡ put old at xs → next ≡ at + length xs
-put_next old new at next xs e = ap (λ (p : Put). p.next) e
 
 -- one part, and then another right after it
 pub put_then : (old one two : List ℕ) (at next end : ℕ) (xs ys : List ℕ) → at + (length xs + length ys) ≤ length old

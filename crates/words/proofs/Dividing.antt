@@ -74,6 +74,3 @@ module _ (R : Relation) (object : List ℕ) (octets : Octets object) where
     where
       further : length chunks * 8 ≡ length rest * 8 + 8
       further = omega (arith, one_less object rest last e below)
-
-pub divided_all : (R : Relation) (object words : List ℕ) {at : ℕ} → at ≡ 0 → Divided R object words at → (j : ℕ) → Holds R j → of_words j words ≡ signature GF16 2 object j
-divided_all R object words none d j holds = d.stands j holds ∙ ap (λ (k : ℕ). signature GF16 2 (drop k object) j) none

@@ -132,7 +132,3 @@ summed_more j words left word e room one sum =
 
     most : j * (4 * suc (length sum.above)) ≤ j * (4 * length words)
     most = mul-le-mul_left j (omega (arith, ap length whole, length-append left (word ∷ sum.above)))
-
-pub summed_all : (j : ℕ) (words left : List ℕ) {s : ℕ} → length left ≡ 0 → Summed j words left s → Stands (of_words j words) (16 + j * (4 * length words)) s
-summed_all j words [] none sum = subst (λ (ws : List ℕ). Stands (of_words j ws) (16 + j * (4 * length ws)) _) (sym sum.whole) sum.stands
-summed_all j words (word ∷ left) none sum = absurd (omega (arith, none))

@@ -37,9 +37,6 @@ loop-k-init c =
       put = sym (row_none (code args.symbols.now) args.output.now) ∙ ap (λ (k : ℕ). written args.output.now 0 (bytes k (code args.symbols.now))) (sym none);
     }
 
-pub slice_bounds-block-end : goal.slice_bounds-block-end
-slice_bounds-block-end c = omega (arith, c.in-Some.ensures.steps.0.1.1, c.loop-k.invariant.size)
-
 pub loop-k-preserved : goal.loop-k-preserved
 unfolding code
 loop-k-preserved c =

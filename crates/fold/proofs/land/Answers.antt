@@ -3,7 +3,7 @@
 use mathlib.Core.Path.{◌∙◌}
 use native.Mathlib.Omega.{arith}
 use Rattle.fold.proofs.Fars.{Far_up, far_up}
-use Rattle.fold.proofs.Landings.{landing_none, landing_more, landing_all}
+use Rattle.fold.proofs.Landings.{landing_none, landing_more}
 use Rattle.fold.proofs.land.Goals as goal
 
 pub loop-offset-init : goal.loop-offset-init
@@ -21,7 +21,3 @@ loop-offset-preserved g c =
     landing_more _ _ _ c.offsets-offset-items.result.now c.loop-offset.offset-index c.loop-offset.window c.add.new.window c.loop-offset-test.true
     (far_up g.R.Relation.known c.offsets-offset-items.result.now law.far c.offsets-offset-items.ensures law.reached c.loop-offset.offset-index c.loop-offset-test.true)
     c.loop-offset.invariant (rw c.REACH.ensures at c.add.ensures)
-
-pub returns : goal.returns
-returns g c =
-    rw (← c.offsets-offset-items.ensures) (landing_all _ _ _ c.offsets-offset-items.result.now _ c.loop-offset-test.false c.loop-offset.invariant)

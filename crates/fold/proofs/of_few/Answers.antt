@@ -1,10 +1,7 @@
 -- `fold::of_few` meets its contract: a short object has its own components, and so has what a fold leaves of a long one.
 -- Assumes nothing.
-use mathlib.Core.Path.{refl, sym, subst}
-use Prim.Native.Nat.{ℕ}
-use lib.ListN.{take}
+use mathlib.Core.Path.{refl}
 use Rattle.std.proofs.lemmas.Fn.{says_at}
-use Rattle.fold.specs.Folding.{Kept}
 use Rattle.fold.proofs.Standing.{fitting, kept_same}
 use Rattle.fold.proofs.of_few.Goals as goal
 
@@ -15,7 +12,3 @@ returns-then-object-SHORT g c =
 pub fold-requires : goal.fold-requires
 fold-requires g c =
     fitting g.R.Relation.known g.met.R.Relation.far g.row.WINDOW c.requires.even c.requires.roomy
-
-pub returns : goal.returns
-returns g c =
-    (take c.REACH.result c.fold.new.window, subst (λ (n : ℕ). Kept g.R.Relation.up_to c.args.object.now (take n c.fold.new.window)) (sym c.REACH.ensures) c.fold.ensures, says_at g.F.Fn c.answer-2.ensures refl)

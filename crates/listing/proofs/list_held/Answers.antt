@@ -12,7 +12,7 @@ use Rattle.map.specs.declared.Header.{Header}
 use Rattle.listing.specs.Lines.{header_line, page_line, line_of}
 use Rattle.listing.proofs.Texts.{text_short, text_room, text_put}
 use Rattle.listing.proofs.Pages.{lines_bytes, lines_most, header_most}
-use Rattle.listing.proofs.Writers.{room_first, room_then, puts_then}
+use Rattle.listing.proofs.Writers.{room_then, puts_then}
 use Rattle.listing.proofs.list_held.Goals as goal
 
 abbrev lines : Header → List ℕ → List ℕ
@@ -35,14 +35,6 @@ returns-then-output-needed c =
     let h : Header = c.args.h in
     let size : _ = counted h c.args.map.now _ _ c.header_line_bytes.ensures c.page_lines_bytes.ensures in
     text_short (header_line h ++ lines h c.args.map.now) c.args.output.now _ size c.if-output-needed.true
-
-pub header_line-requires : goal.header_line-requires
-header_line-requires c =
-    let h : Header = c.args.h in
-    let start : _ = c.new-lines in
-    let size : _ = counted h c.args.map.now _ _ c.header_line_bytes.ensures c.page_lines_bytes.ensures in
-    room_first (header_line h) (lines h c.args.map.now) start.result
-    (text_room (header_line h ++ lines h c.args.map.now) c.args.output.now _ size c.if-output-needed.false start.result start.ensures.empty)
 
 pub page_lines-requires : goal.page_lines-requires
 page_lines-requires c =

@@ -17,7 +17,6 @@ pub loop-init : goal.loop-init
 loop-init c =
     let args : _ = c.args in
     record {
-      x_small = omega arith;
       y_is = sym (div-one args.symbol);
       sum_is = zero_sum (product GF16 args.weight args.symbol);
       x_is = sym (first_weight args.weight (omega arith));
@@ -31,9 +30,8 @@ loop-preserved c =
     let part : c.sum-r.result ≡ scaled (at.y % 2) at.x ⊕ at.r = c.sum-r.ensures ∙ ap (λ (n : ℕ). n ⊕ at.r) (digit_scaled (at.y % 2) at.x (omega arith)) in
     let twice : c.double-x.result ≡ doubled GF16 at.x = c.double-x.ensures in
     record {
-      x_small = omega arith;
       y_is = ap (λ (n : ℕ). n / 2) at.invariant.y_is ∙ shr-shr args.symbol at.counter 1;
-      sum_is = ap₂ (λ (n x : ℕ). n ⊕ product GF16 x (at.y / 2)) part twice ∙ product_turn GF16 GF16_formed at.r at.invariant.x_small small ∙ at.invariant.sum_is;
+      sum_is = ap₂ (λ (n x : ℕ). n ⊕ product GF16 x (at.y / 2)) part twice ∙ product_turn GF16 GF16_formed at.r (omega arith) small ∙ at.invariant.sum_is;
       x_is = twice ∙ ap (doubled GF16) at.invariant.x_is ∙ sym (next_weight args.weight at.counter (omega arith));
     }
 

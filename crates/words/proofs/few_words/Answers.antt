@@ -2,7 +2,7 @@
 -- Assumes nothing.
 use Rattle.std.proofs.Common.{ap, ◌∙◌}
 use Rattle.field.specs.Field.{◌⊕◌}
-use Rattle.words.proofs.Sums.{summed_none, summed_more, summed_all}
+use Rattle.words.proofs.Sums.{summed_none, summed_more}
 use Rattle.words.proofs.few_words.Goals as goal
 
 pub loop-word-init : goal.loop-word-init
@@ -13,6 +13,3 @@ loop-word-init c =
 pub loop-word-preserved : goal.loop-word-preserved
 unfolding ◌⊕◌
 loop-word-preserved c = summed_more c.args.j c.args.words.now _ c.in-Some.word.now c.in-Some.ensures.steps c.requires.2 c.one_word.ensures c.loop-word.invariant
-
-pub returns : goal.returns
-returns c = summed_all c.args.j c.args.words.now _ c.in-None.ensures.steps.0 c.loop-word.invariant

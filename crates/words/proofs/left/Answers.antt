@@ -2,11 +2,8 @@
 -- Assumes nothing.
 use Rattle.std.proofs.Common.{List, ℕ, ◌≡◌, ◌∙◌, ap, subst, sym, length, arith}
 use Rattle.words.proofs.Reading.{Chunks, chunks_all, chunks_front, chunks_less}
-use Rattle.words.proofs.Dividing.{divided_start, divided_chunk, divided_all}
+use Rattle.words.proofs.Dividing.{divided_start, divided_chunk}
 use Rattle.words.proofs.left.Goals as goal
-
-pub split_at-requires : goal.split_at-requires
-split_at-requires g c = omega (arith, g.met.R.Remainder.a_word_at_least)
 
 pub loop-bytes-init : goal.loop-bytes-init
 loop-bytes-init g c =
@@ -29,6 +26,3 @@ loop-bytes-preserved g c =
       below = chunks_less c.args.object.now _ _ e inv.below;
       stands = divided_chunk g.R.Remainder.relation c.args.object.now (λ i. (c.type_inv.object i).fits) _ _ e inv.below c.from_le_bytes.ensures c.divided-r.ensures inv.stands;
     }
-
-pub returns : goal.returns
-returns g c = divided_all g.R.Remainder.relation c.args.object.now _ (omega (arith, c.in-None.ensures.steps.0)) c.loop-bytes.invariant.stands

@@ -2,11 +2,8 @@
 -- Assumes nothing.
 use mathlib.Core.List.{[], ◌∷◌}
 use Rattle.listing.specs.Digits.{hex}
-use Rattle.listing.proofs.Writers.{room_first, room_then, puts_then}
+use Rattle.listing.proofs.Writers.{room_then, puts_then}
 use Rattle.listing.proofs.Writer.column.Goals as goal
-
-pub text-requires : goal.text-requires
-text-requires c = room_first (32 ∷ []) (hex c.args.x) c.args.self.now c.requires
 
 pub hex-requires : goal.hex-requires
 hex-requires c = room_then (32 ∷ []) (hex c.args.x) c.args.self.now c.text.new.self c.requires c.text.ensures

@@ -1,11 +1,8 @@
 -- `listing::Writer::two_named` meets its contract: the second stands right after the first.
 -- Assumes nothing.
 use Rattle.listing.specs.Lines.{named}
-use Rattle.listing.proofs.Writers.{room_first, room_then, puts_then}
+use Rattle.listing.proofs.Writers.{room_then, puts_then}
 use Rattle.listing.proofs.Writer.two_named.Goals as goal
-
-pub named-requires : goal.named-requires
-named-requires c = let args : _ = c.args in room_first (named args.one.now args.x) (named args.two.now args.y) args.self.now c.requires
 
 pub named-requires-2 : goal.named-requires-2
 named-requires-2 c =

@@ -2,7 +2,6 @@
 -- Assumes nothing.
 use mathlib.Core.Path.{◌≡◌}
 use Prim.Native.Nat.{◌+◌, ◌-◌, ◌*◌}
-use lib.ListN.{length}
 use Rattle.units.specs.Runs.{end_to_end}
 use Rattle.units.specs.Writing.{written}
 use Rattle.signature.specs.Objects.{low_bytes}
@@ -12,5 +11,4 @@ use Rattle.map.proofs.making.put_components.Given as goal
 
 abbrev pub invariant-loop-j : goal.invariant-loop-j
 invariant-loop-j l =
-    (written l.output (2 * l.j) (end_to_end (λ i. low_bytes 2 (handed l.s i)) (l.j + 1) (l.s.n - l.j)) ≡ components l.s.n (handed l.s))
-    × (length l.output ≡ 2 * l.s.n)
+    written l.output (2 * l.j) (end_to_end (λ i. low_bytes 2 (handed l.s i)) (l.j + 1) (l.s.n - l.j)) ≡ components l.s.n (handed l.s)

@@ -46,14 +46,12 @@ loop-k-preserved c =
     let same : place n (at.k + suc m) ≡ place n (pages args.h) = ap (place n) whole in
     let fits : place n at.k + suc m * entry_bytes n ≤ length at.output = omega (arith, required) in
     let turn : written (written at.output (place n at.k) (f at.k)) (place n at.k + entry_bytes n) (end_to_end f (suc at.k) m) ≡ written at.output (place n at.k)
-    (end_to_end f at.k (suc m)) = run_turn f (entry_bytes n) (made_length n args.h.page.count args.bucket.now) at.output (place n at.k) m at.k fits in (
-      ap₂ (λ (l : List ℕ) (j : ℕ). written l (place n j) (end_to_end f j m)) put (add-one at.k)
-          ∙ ap (λ (i : ℕ). written (written at.output (place n at.k) (f at.k)) i (end_to_end f (suc at.k) m)) (next_place n at.k)
-          ∙ turn
-          ∙ ap (λ (i : ℕ). written at.output (place n at.k) (end_to_end f at.k i)) up
-          ∙ at.invariant.0,
-      put-entry.auto.map ∙ at.invariant.1,
-    )
+    (end_to_end f at.k (suc m)) = run_turn f (entry_bytes n) (made_length n args.h.page.count args.bucket.now) at.output (place n at.k) m at.k fits in
+    ap₂ (λ (l : List ℕ) (j : ℕ). written l (place n j) (end_to_end f j m)) put (add-one at.k)
+    ∙ ap (λ (i : ℕ). written (written at.output (place n at.k) (f at.k)) i (end_to_end f (suc at.k) m)) (next_place n at.k)
+    ∙ turn
+    ∙ ap (λ (i : ℕ). written at.output (place n at.k) (end_to_end f at.k i)) up
+    ∙ at.invariant
 
 pub returns : goal.returns
 returns c =
@@ -65,4 +63,4 @@ returns c =
     let none : pages args.h - at.k ≡ 0 = omega arith in
     let inside : place args.h.n at.k ≤ length at.output = omega (arith, ap (place args.h.n) end, required) in
     sym (written_none at.output (place args.h.n at.k) inside) ∙ ap (written at.output (place args.h.n at.k)) (sym (run_none f at.k))
-    ∙ ap (λ (m : ℕ). written at.output (place args.h.n at.k) (end_to_end f at.k m)) (sym none) ∙ at.invariant.0
+    ∙ ap (λ (m : ℕ). written at.output (place args.h.n at.k) (end_to_end f at.k m)) (sym none) ∙ at.invariant

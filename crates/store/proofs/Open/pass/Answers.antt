@@ -45,9 +45,6 @@ unfolding made_entry
 entry_made h table map k put signed cut =
     put ∙ ap (λ (s : Signature). entry_put (record { tag = 4; signature = s }) map k) (signed ∙ ap (own wide h.n) cut)
 
-pub invariant_of-self-clause-image_length : goal.invariant_of-self-clause-image_length
-invariant_of-self-clause-image_length c = c.put_part.auto.buffer ∙ c.args.self.now.image_length
-
 pub invariant_of-self-2-clause-map_octets : goal.invariant_of-self-2-clause-map_octets
 invariant_of-self-2-clause-map_octets c i =
     rw c.put_entry.ensures (put_octets c.own-own.result c.args.self.now.map.now c.args.k c.args.self.now.map_octets i)
