@@ -12,9 +12,6 @@ use Rattle.weights.specs.Blocks.{Set}
 use Rattle.weights.proofs.Turns.{in_both}
 use Rattle.field.specs.Field.{GF16, product}
 
--- the library's lesser of two numbers
-pub lesser : {r : ℕ} (a b : ℕ) → r ≡ ord_min nat_cmp a b → r ≡ min a b
-lesser a b e = search (rules, e)
 
 -- a block of 16 whose first n symbols were read anew
 pub record Refilled (n : ℕ) (block read : List ℕ) : Type 0 where

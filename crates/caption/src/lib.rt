@@ -117,7 +117,7 @@ fn put_plain(symbols: &[[u8; 2]], output: &mut [u8])
     let mut i = symbols.len();
     // Not `for done in (0..symbols.len()).step_by(16)`: with it decoding takes 7 % longer. Nor `rchunks`: a change takes the symbol before the part too.
     while i > 0 {
-        let n = 16.min(i);
+        let n = weights::least(16, i);
         read_changes(&symbols[..i], &mut block[..n]);
         weights::weigh(&mut block, &mut unweights);
         put_symbols(&block[..n], i, output);
@@ -212,7 +212,7 @@ fn find(symbols: &[[u8; 2]], pattern: &[u8], list: &mut [usize]) -> Result<usize
     let mut i: usize = 0;
     // Not `for i in (0..count).step_by(16)`: with it a search takes 7 % longer, as a step looks for the end twice.
     while i < count {
-        let n = 16.min(count - i);
+        let n = weights::least(16, count - i);
         let block = Block {
             symbols,
             l,

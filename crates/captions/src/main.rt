@@ -18,10 +18,22 @@ fn main() {
     let mut room = [0u8; 16_384];
     let (commands, _) = program::input(&mut room).as_chunks::<4>();
     let mut desk = Desk {
-        caption: Buffer::new(0),
-        pattern: Buffer::new(0),
-        output: Buffer::new(0xEE),
-        list: Buffer::new(99),
+        caption: Buffer {
+            all: [0; 65_538],
+            lent: 0,
+        },
+        pattern: Buffer {
+            all: [0; 200_000],
+            lent: 0,
+        },
+        output: Buffer {
+            all: [0xEE; 65_538],
+            lent: 0,
+        },
+        list: Buffer {
+            all: [99; 32_770],
+            lent: 0,
+        },
     };
     for [letter, low, middle, high] in commands {
         desk.command(*letter, u16::from_le_bytes([*low, *middle]), *high);

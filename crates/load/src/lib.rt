@@ -82,7 +82,8 @@ impl<'a> Open<'a> {
     fn lowest_damaged(&self) -> Option<usize>
         ensures { result ≡ lowest_named (damaged self.now.h self.now.image.now self.now.map.now) (header_pages self.now.h) }
     {
-        for k in 0..map::pages(self.h) {
+        let count = map::pages(self.h);
+        for k in 0..count {
             if !self.whole(k) {
                 return Some(k);
             }
@@ -98,7 +99,7 @@ impl<'a> Open<'a> {
         if let Some(k) = self.lowest_damaged() {
             return Err(Refusal::Damaged(k));
         }
-        table.copy_from_slice(self.image);
+        units::put_part(self.image, table, 0);
         Ok(Bytes {
             count: self.image.len(),
         })

@@ -1,5 +1,5 @@
 -- Reading a map: the rules of a whole map in the order of the file. The first that is broken gives its place.
-use Rattle.std.specs.Prelude.{ℕ, zero, suc, ◌+◌, ◌*◌, Bool, not, ◌&&◌, List, [], ◌∷◌, ◌++◌, leb, length, get_or, Result, Ok, Err}
+use Rattle.std.specs.Prelude.{ℕ, zero, suc, ◌+◌, ◌*◌, Bool, not, ◌&&◌, List, [], ◌∷◌, ◌++◌, leb, length, get_or, Result, Ok, Err, codes, decimal}
 use Rattle.units.specs.Sizes.{n_allowed, page_allowed, bucket_allowed}
 use Rattle.units.specs.Refusals.{Verdict, value, Test, gives, first}
 use Rattle.units.specs.declared.Refusal.{Refusal}
@@ -50,6 +50,10 @@ broken place = Err (record { place = place })
 abbrev pub told : Verdict → Header → Reading
 told (Ok _) h = Ok h
 told (Err r) h = broken (value r)
+
+-- a break as it is printed
+abbrev pub shown : Break → List ℕ
+shown b = codes "map refused at " ++ decimal b.place
 
 -- the place of the first break, or what the header holds
 unfoldable pub reading : List ℕ → Reading

@@ -3,14 +3,14 @@
 
 mod making;
 
-ghost use Rattle.std.specs.Prelude.{◌≡◌, ◌&&◌, ◌+◌, ◌*◌, ◌^◌, ◌≤◌, ◌<◌, min, length};
+ghost use Rattle.std.specs.Prelude.{◌≡◌, ◌&&◌, ◌+◌, ◌*◌, ◌^◌, ◌≤◌, ◌<◌, min, length, Some};
 ghost use Rattle.units.specs.Refusals.{first};
 ghost use Rattle.units.specs.declared.Refusal.TheVariants.{Map};
 ghost use Rattle.signature.specs.Objects.{low_first};
 ghost use Rattle.signature.specs.Signatures.{up_to};
 ghost use Rattle.map.specs.Files.{pages as header_pages, place as file_place};
 ghost use Rattle.reader.specs.Fields.{field_at, is_due};
-ghost use Rattle.map.specs.Reading.{header_of, header_tests, entry_tests, told, reading, entry_at};
+ghost use Rattle.map.specs.Reading.{header_of, header_tests, entry_tests, told, reading, entry_at, shown};
 
 pub use making::{component, make, page_at, put_entry};
 pub use reader::ENTRY_TAG;
@@ -44,6 +44,8 @@ pub struct Break {
 }
 
 impl fmt::Display for Break {
+    ghost output = { λ b. Some (shown b) };
+
     fn fmt<W: fmt::Write>(&self, f: &mut fmt::Formatter<W>) -> fmt::Result {
         let place = self.place;
         write!(f, "map refused at {place}")
@@ -131,14 +133,15 @@ fn read_entries(h: Header, map: &[u8]) -> Result<Header, Break>
     requires { h.n ≤ 4 }
     ensures { result ≡ told (first (entry_tests h.n map.now (header_pages h) 18)) h }
 {
-    let mut fields = Reader::new(map, HEADER_BYTES);
+    let size = 3 + 2 * h.n;
+    let mut place = HEADER_BYTES;
+    // Not by a `Reader` that goes from field to field: its next place waits for the field that was read, and a map of many pages takes 1.7 times as long.
     for k in 0..pages(h) {
-        let place = fields.place;
-        if !due(ENTRY_TAG, fields.next(h.n)) {
+        if !due(ENTRY_TAG, reader::read_field(h.n, map, place)) {
             return Err(Break { place });
         }
+        place += size;
     }
-    let place = fields.place;
     if place < map.len() {
         return Err(Break { place });
     }

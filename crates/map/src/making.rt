@@ -14,13 +14,16 @@ use crate::{
 use signature::Signature;
 use units::{Bytes, Refusal};
 
-// Page k of a bucket. Past the bucket's end it is empty.
+// Page k of a bucket. Past the bucket's end it is empty, and stands at the start.
 pub fn page_at<'a>(page: Bytes, bucket: &'a [u8], k: usize) -> &'a [u8]
     ensures { result.now ≡ page_at page.count bucket.now k }
 {
     let size = page.count;
     let start = k.saturating_mul(size).min(bucket.len());
     let end = start.saturating_add(size).min(bucket.len());
+    if start == end {
+        return &bucket[..0];
+    }
     &bucket[start..end]
 }
 

@@ -90,12 +90,39 @@ pub fn text(t: &[u8])
 }
 
 // Standard output, as a writer that never fails: what a write leaves out is missed when the output is compared.
-#[derive(Clone, Copy)]
-struct Output;
+// A format hands over its pieces one by one. They wait here, so that many go on by one write.
+#[derive(Drop)]
+struct Output {
+    waiting: Buffer<u8, WAITING>,
+}
+
+const WAITING: usize = 256;
+
+impl Output {
+    fn new() -> Output {
+        Output {
+            waiting: Buffer::new(0),
+        }
+    }
+
+    // What waits goes on.
+    fn send(&mut self) {
+        text(self.waiting.part());
+        self.waiting.lent = 0;
+    }
+}
 
 impl Write for Output {
     fn write_str(&mut self, s: &str) -> fmt::Result {
-        text(s.as_bytes());
+        let piece = s.as_bytes();
+        let after = self.waiting.lent.saturating_add(piece.len());
+        if after <= WAITING {
+            units::put_part(piece, &mut self.waiting.all, self.waiting.lent);
+            self.waiting.lent = after;
+            return Ok(());
+        }
+        self.send();
+        text(piece);
         Ok(())
     }
 }
@@ -103,13 +130,17 @@ impl Write for Output {
 pub fn print<D: Display + Drop>(what: D)
     ensures { result ≡ tt }
 {
-    let _ = Output.write(what);
+    let mut output = Output::new();
+    let _ = output.write(what);
+    output.send();
 }
 
 pub fn print_line<D: Display + Drop>(what: D)
     ensures { result ≡ tt }
 {
-    let _ = Output.writeln(what);
+    let mut output = Output::new();
+    let _ = output.writeln(what);
+    output.send();
 }
 
 // What a line is about. A label is bytes, here and wherever one is taken, as it was: a `&str` would ask more of callers.
@@ -132,10 +163,12 @@ pub fn line(word: &[u8], x: usize)
 pub fn bytes(b: &[u8])
     ensures { result ≡ tt }
 {
+    let mut output = Output::new();
     for x in b {
-        print(format_args!("{x:02x}"));
+        let _ = output.write(format_args!("{x:02x}"));
     }
-    print_line("");
+    let _ = output.writeln("");
+    output.send();
 }
 
 // A line for each number.

@@ -1,4 +1,4 @@
--- What a step answers of a page: that it was kept or written, and neither that it was refused nor that the store is finished.
+-- What a step answers of a page: that it was kept or written, and not that the store is finished.
 -- Assumes nothing.
 use mathlib.Core.Path.{◌≡◌, refl}
 use mathlib.Core.Bool.{Bool, true, false}
@@ -12,9 +12,6 @@ use Rattle.store.specs.declared.Answer.TheVariants.{Kept, Written, Finished}
 
 abbrev pub answers : Answer → Result Answer Refusal
 answers a = Ok a
-
-pub never_refused : {a : Answer} {r : Refusal} → answers a ≡ Err r → ⊥
-never_refused e = let z : ◌≡◌ {A = ℕ} 0 1 = cc in omega arith
 
 module _ (k : ℕ) where
   pub told_kept : (b : Bool) (j : ℕ) → answers (Kept j) ≡ answers (page_answer k b) → b ≡ true

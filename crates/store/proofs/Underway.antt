@@ -29,8 +29,9 @@ use Rattle.store.specs.Steps.{Stepped, stepped_of, page_answer, passed_to, passi
 use Rattle.store.specs.Stores.{stored_of, stored_to, open_store}
 use Rattle.store.specs.declared.Answer.TheVariants.{Kept, Written, Finished}
 use Rattle.store.specs.declared.Place.{Place}
+use Rattle.store.specs.declared.Answer.{Answer}
 use Rattle.store.specs.declared.Step.{Step}
-use Rattle.store.proofs.Tags.{never_refused, told_kept, told_written, told_not_finished}
+use Rattle.store.proofs.Tags.{told_kept, told_written, told_not_finished}
 use Rattle.std.specs.Prelude.{Ok, Err}
 use Rattle.units.specs.declared.Refusal.{Refusal}
 
@@ -171,8 +172,8 @@ module _ {h : Header} {table image₀ map₀ : List ℕ} (ready : Ready h table 
       pub on_finished : s.answer ≡ Ok Finished → Done
       on_finished is = ⊎_elim (λ (p : Passed). absurd (told_not_finished k _ (sym p.told ∙ is))) (λ (d : Done). d) taken
 
-      pub on_refused : {r : Refusal} → s.answer ≡ Err r → ⊥
-      on_refused is = ⊎_elim (λ (p : Passed). never_refused (sym p.told ∙ is)) (λ (d : Done). never_refused (sym d.told ∙ is)) taken
+      pub on_refused : ((a : Answer) → s.answer ≡ Ok a → ⊥) → ⊥
+      on_refused none = ⊎_elim (λ (p : Passed). none _ p.told) (λ (d : Done). none _ d.told) taken
 
 -- ---- the list
 

@@ -10,7 +10,9 @@ use Rattle.map.specs.Reading.{header_of, entry_at}
 use Rattle.map.specs.declared.Header.{Header}
 use Rattle.backup.specs.Backups.{Backup, backup_in, stored, changed}
 use Rattle.backup.specs.Openings.{open_tests}
-use Rattle.std.specs.Prelude.{Ok, Err}
+use Rattle.store.specs.declared.Answer.{Answer}
+use Rattle.units.specs.declared.Refusal.{Refusal}
+use Rattle.std.specs.Prelude.{Result, Ok, Err}
 
 pub record Stored : Type 0 where
   pub answer : Listed
@@ -29,6 +31,11 @@ abbrev pub store_unless : Verdict → Header → List ℕ → List ℕ → List 
 store_unless (Ok _) h table image map list =
     stored_to h (stored h table (backup_in h.n image map) (pages h)) (changed h table (entry_at h.n map) (pages h)) list
 store_unless (Err r) h table image map list = stored_of (Err r) image map list
+
+-- what a store answers whose last step answered so
+abbrev pub ended_by : Result Answer Refusal → ℕ → Listed
+ended_by (Ok a) found = Ok found
+ended_by (Err r) found = Err r
 
 -- the list has room for as many numbers as there are pages
 abbrev pub list_tests : Header → List ℕ → List Test

@@ -6,7 +6,7 @@ ghost use Rattle.signature.specs.Objects.{Octets};
 ghost use Rattle.map.specs.Files.{pages as header_pages};
 ghost use Rattle.map.specs.Reading.{reading, entry_at};
 ghost use Rattle.store.specs.Steps.{stepped_of, passing, open_step, stepping};
-ghost use Rattle.store.specs.Stores.{stored_of, open_store, storing};
+ghost use Rattle.store.specs.Stores.{stored_of, ended_by, open_store, storing};
 
 use map::{Entry, Header};
 use units::{Bytes, Refusal};
@@ -178,7 +178,9 @@ impl<'a> Open<'a> {
         let mut found: usize = 0;
         loop {
             let step = self.step(place);
-            let answer = step.answer?;
+            let Ok(answer) = step.answer else {
+                return ended(step.answer, found);
+            };
             place = step.next;
             match answer {
                 Answer::Kept(_) => {}
@@ -190,4 +192,12 @@ impl<'a> Open<'a> {
             }
         }
     }
+}
+
+// What a store answers whose last step answered so.
+fn ended(answer: Result<Answer, Refusal>, found: usize) -> Result<usize, Refusal>
+    ensures { result ≡ ended_by answer found }
+{
+    answer?;
+    Ok(found)
 }

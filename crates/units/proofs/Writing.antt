@@ -5,6 +5,7 @@ use mathlib.Core.Logic.{◌≢◌}
 use mathlib.Core.List.{List, [], ◌∷◌, ◌++◌, append_assoc, append-nil}
 use Prim.Native.Nat.{ℕ, suc, ◌+◌, ◌-◌, ◌≤◌, ◌<◌}
 use native.Mathlib.Nat.{add-zero, add-suc, suc-add, le_refl}
+use native.Mathlib.Numerals.{add-one}
 use native.Mathlib.Omega.{arith}
 use lib.ListN.{length, get_or, take, drop, set, length-append, length-set, drop_of_length-le, get_or-append}
 use lib.Seq.{drop-drop, sets, sets-eq, length-sets, length-take-le, set_comm, take_at, drop_at, get_or-take, get_or-drop}
@@ -25,6 +26,13 @@ written_none old at fits = written_sets old at [] (omega (arith, add-zero at))
 
 pub written_one : (old : List ℕ) (at x : ℕ) → at < length old → written old at (x ∷ []) ≡ set old at x
 written_one old at x fits = written_sets old at (x ∷ []) (omega arith)
+
+-- the first element, then the others
+pub written_cons : (old : List ℕ) (at x : ℕ) (xs : List ℕ) → at + 1 + length xs ≤ length old → written (set old at x) (at + 1) xs ≡ written old at (x ∷ xs)
+written_cons old at x xs fits =
+    written_sets (set old at x) (at + 1) xs (omega (arith, length-set old at x))
+    ∙ ap (λ (k : ℕ). sets (set old at x) k xs) (add-one at)
+    ∙ sym (written_sets old at (x ∷ xs) (omega arith))
 
 sets_append : (xs ys old : List ℕ) (at : ℕ) → sets (sets old at xs) (at + length xs) ys ≡ sets old at (xs ++ ys)
 sets_append [] ys old at = ap (λ (k : ℕ). sets old k ys) (add-zero at)
@@ -154,14 +162,6 @@ written_whole old new long =
     let past : length old ≤ 0 + length new = omega arith in
     ap (λ (l : List ℕ). new ++ l) (drop_of_length-le old past) ∙ append-nil new
 
--- a part copied over a slice of the buffer that is as long, and one that finds no room
-pub part_copied : (part old new : List ℕ) (at size : ℕ) → new ≡ part → size ≡ length part → at + length part ≤ length old
-    → put_mid at size old new ≡ part_put part old at
-unfolding written
-part_copied part old new at size same long fits =
-    ap (put_mid at size old) same
-    ∙ ap (λ (l : List ℕ). take at old ++ (part ++ l)) (drop-drop size at old ∙ ap (λ (k : ℕ). drop (at + k) old) long)
-    ∙ sym (part_put_lem part old at fits)
-
+-- a part that finds no room
 pub part_passed : (part old : List ℕ) (at : ℕ) → length old < at + length part → old ≡ part_put part old at
 part_passed part old at short = sym (part_not_put part old at short)

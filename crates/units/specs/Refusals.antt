@@ -1,5 +1,5 @@
 -- The numbers given back when a call is turned down, and how an operation's tests choose among them: in order, the first that applies.
-use Rattle.std.specs.Prelude.{ℕ, Bool, cond, List, [], ◌∷◌, Result, Ok, Err, ⊤}
+use Rattle.std.specs.Prelude.{ℕ, Bool, cond, List, [], ◌∷◌, ◌++◌, Result, Ok, Err, ⊤, codes, decimal}
 use Rattle.units.specs.declared.Refusal.{Refusal}
 use Rattle.units.specs.declared.Refusal.TheVariants.{Size, Page, Long, Odd, Map, Match, Room, Empty, PageNo, Damaged, Thin}
 
@@ -62,6 +62,10 @@ value Empty = 0
 value PageNo = 0
 value (Damaged page) = page
 value Thin = 0
+
+-- a refusal as it is printed
+abbrev pub shown : Refusal → List ℕ
+shown r = codes "refused " ++ (decimal (number r) ++ (codes " " ++ decimal (value r)))
 
 -- what an operation's tests say of a call: that it is allowed, or why it is refused
 abbrev pub Verdict : Type 0

@@ -1,11 +1,11 @@
 // Counts that carry their own name, the sizes that are allowed, the table's refusals, and a part put into a buffer.
 #![tactic(auto)]
 
-ghost use Rattle.std.specs.Prelude.{◌≡◌};
+ghost use Rattle.std.specs.Prelude.{◌≡◌, Some};
 ghost use Rattle.units.specs.Counts.{symbols_in, bytes_in, pages_in, exponent_at, exponent_back};
 ghost use Rattle.units.specs.Sizes.{n_allowed, page_allowed, object_allowed, bucket_allowed, caption_allowed};
 ghost use Rattle.units.specs.Writing.{part_put};
-ghost use Rattle.units.specs.Refusals.{number, value};
+ghost use Rattle.units.specs.Refusals.{number, value, shown};
 
 use std::error::Error;
 use std::fmt;
@@ -177,6 +177,8 @@ impl Refusal {
 }
 
 impl fmt::Display for Refusal {
+    ghost output = { λ r. Some (shown r) };
+
     fn fmt<W: fmt::Write>(&self, f: &mut fmt::Formatter<W>) -> fmt::Result {
         let number = self.number();
         let value = self.value();
@@ -187,12 +189,15 @@ impl fmt::Display for Refusal {
 impl Error for Refusal {}
 
 // A part written over what stood there. Where there is no room for it, all stays as it was.
-#[tactic(auto, using(crate::proofs::Writing::part_copied, crate::proofs::Writing::part_passed))]
+#[tactic(auto, using(crate::proofs::Writing::part_passed))]
 pub fn put_part(part: &[u8], buffer: &mut [u8], at: usize)
     ensures { buffer.new ≡ part_put part.now buffer.old at }
 {
     if buffer.len() < at || buffer.len() - at < part.len() {
         return;
     }
-    buffer[at..at + part.len()].copy_from_slice(part);
+    // Not `copy_from_slice`: by it the archive for C would need `memmove` too.
+    for (i, x) in part.iter().enumerate() {
+        buffer[at + i] = *x;
+    }
 }

@@ -6,7 +6,7 @@ ghost use Rattle.weights.specs.Blocks.{Set};
 ghost use Rattle.field.specs.Field.{GF16, α};
 ghost use Rattle.field.specs.Field.{product as field_product, power as field_power};
 
-// The library's `min`, which callers here take; this stays for what is promised of it, `least_one_answer`.
+// The library's `min`, by the name that is promised.
 pub fn least(a: usize, b: usize) -> usize
     ensures { result ≡ min a b }
 {
@@ -30,7 +30,7 @@ pub fn weigh(block: &mut [u16], weights: &mut [u16])
     ensures weight { Set (λ l. field_product GF16 (get_or weights.old l 0) (field_power GF16 α 16)) weights.old (min (length block.old) (length weights.old)) weights.new }
 {
     // By places: over a `zip` of two `iter_mut` the proof did not close, since it knows no more than the lengths of what is written.
-    for l in 0..block.len().min(weights.len()) {
+    for l in 0..least(block.len(), weights.len()) {
         let (product, next) = weighed(block[l], weights[l]);
         block[l] = product;
         weights[l] = next;

@@ -24,7 +24,6 @@ use Rattle.signature.specs.Objects.{Octets, symbol, symbols}
 use Rattle.caption.specs.Searches.{searched_of, search_unless}
 use Rattle.caption.specs.Codes.{previous, weight, hit, places}
 use Rattle.caption.specs.Pairs.{symbol_in, found_in}
-use Rattle.caption.proofs.Turns.{lesser}
 use Rattle.caption.proofs.Listing.{none_yet, few_found, as_long, all_passed}
 use Rattle.caption.specs.Blocks.{Notes}
 use Rattle.caption.specs.declared.Hits.{Hits}
@@ -73,9 +72,9 @@ loop-i-init c = record {
 pub note-requires : goal.note-requires
 note-requires c =
     let at : _ = c.loop-i in
-    let n : ℕ = c.min-n.result in
-    let few : n ≡ min 16 (c.places-count.result - at.i) = lesser 16 (c.places-count.result - at.i) c.min-n.ensures in
-    (omega (arith, (count_is _ c.symbols_in-l.ensures c.places-count.ensures), length-take-le n at.weighed (omega (arith, c.min-n.array_long)), as_long at.invariant.noted (omega (arith, (count_is _ c.symbols_in-l.ensures c.places-count.ensures)))), few_found at.invariant.noted)
+    let n : ℕ = c.least-n.result in
+    let few : n ≡ min 16 (c.places-count.result - at.i) = c.least-n.ensures in
+    (omega (arith, (count_is _ c.symbols_in-l.ensures c.places-count.ensures), length-take-le n at.weighed (omega (arith, c.least-n.array_long)), as_long at.invariant.noted (omega (arith, (count_is _ c.symbols_in-l.ensures c.places-count.ensures)))), few_found at.invariant.noted)
 
 pub loop-i-preserved : goal.loop-i-preserved
 unfolding hitting hit
@@ -85,9 +84,9 @@ loop-i-preserved c =
     let pattern : List ℕ = c.args.pattern.now in
     let code : ℕ → ℕ = symbol_in pairs in
     let l : ℕ = c.symbols_in-l.result.count in
-    let n : ℕ = c.min-n.result in
-    let few : n ≡ min 16 (c.places-count.result - at.i) = lesser 16 (c.places-count.result - at.i) c.min-n.ensures in
-    let sized : length (take n at.weighed) ≡ n = length-take-le n at.weighed (omega (arith, c.min-n.array_long)) in
+    let n : ℕ = c.least-n.result in
+    let few : n ≡ min 16 (c.places-count.result - at.i) = c.least-n.ensures in
+    let sized : length (take n at.weighed) ≡ n = length-take-le n at.weighed (omega (arith, c.least-n.array_long)) in
     let inside : at.i < places (length pairs) (symbols 2 pattern) = omega (arith, (count_is _ c.symbols_in-l.ensures c.places-count.ensures)) in
     let each : (k : ℕ) → k < length (take n at.weighed) → hitting pairs pattern (at.i + k) ≡ eqb (previous code (at.i + k + l) ⊕ previous code (at.i + k)) (get_or (take n at.weighed) k 0) =
     λ k h.
@@ -97,7 +96,7 @@ loop-i-preserved c =
       inside = omega (arith, (count_is _ c.symbols_in-l.ensures c.places-count.ensures));
       weighed_is = λ more k h.
           let on : at.i + k + 16 ≡ at.i + n + k = omega (arith, (count_is _ c.symbols_in-l.ensures c.places-count.ensures)) in
-          c.move_on.ensures.done k (omega (arith, h, c.min-n.array_long))
+          c.move_on.ensures.done k (omega (arith, h, c.least-n.array_long))
           ∙ ap (λ (x : ℕ). product GF16 x (weight GF16 0 16)) (at.invariant.weighed_is inside k h)
           ∙ product_assoc GF16 GF16_formed (signed pattern (λ j. (c.type_inv.pattern j).fits)) (weight_element GF16 0 GF16_passes (at.i + k)) (weight_element GF16 0 GF16_passes 16)
           ∙ ap (product GF16 (signature GF16 2 pattern 1)) (weight_on GF16 0 GF16_passes (at.i + k) 16 ∙ ap (weight GF16 0) on);

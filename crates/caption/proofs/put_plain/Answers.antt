@@ -17,7 +17,7 @@ use Rattle.caption.specs.Codes.{plain}
 use Rattle.caption.specs.Recoding.{bytes, decoded}
 use Rattle.caption.proofs.Codes.{as_weight, unweight_turn, unweight_on}
 use Rattle.caption.proofs.Rows.{row_none}
-use Rattle.caption.proofs.Turns.{lesser, Refilled, first_long, still_long, weighed_long, weighed_at}
+use Rattle.caption.proofs.Turns.{Refilled, first_long, still_long, weighed_long, weighed_at}
 use Rattle.weights.proofs.Turns.{in_both}
 use Rattle.caption.proofs.put_plain.Invariants.{plainly}
 use Rattle.caption.proofs.put_plain.Goals as goal
@@ -53,9 +53,9 @@ loop-i-preserved c =
     let at : _ = c.loop-i in
     let args : _ = c.args in
     let symbols : List (List ℕ) = args.symbols.now in
-    let n : ℕ = c.min-n.result in
-    let few : n ≡ min 16 at.i = lesser 16 at.i c.min-n.ensures in
-    let refilled : Refilled n at.block read.new.block = record { few = omega arith; long = c.min-n.array_long; as_read = read.auto.block } in
+    let n : ℕ = c.least-n.result in
+    let few : n ≡ min 16 at.i = c.least-n.ensures in
+    let refilled : Refilled n at.block read.new.block = record { few = omega arith; long = c.least-n.array_long; as_read = read.auto.block } in
     let wide : length at.unweights ≡ 16 = omega arith in
     let sized : length (take n weigh.new.block) ≡ n = weighed_long refilled at.unweights wide weigh.ensures.product in
     let each : (l : ℕ) → l < length (take n weigh.new.block) → get_or (take n weigh.new.block) l 0 ≡ plainly symbols (at.i - 1 - l) =

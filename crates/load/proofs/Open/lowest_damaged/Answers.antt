@@ -14,14 +14,14 @@ returns-then-not-whole c =
     let o : Open = c.args.self.now in
     let at : _ = c.loop-k in
     let bad : damaged o.h o.image.now o.map.now at.k ≡ true = ap not (sym c.whole.ensures ∙ c.if-not-whole.true) in
-    upward_finds _ (pages o.h) at.k (omega (arith, c.pages-k-end.ensures)) at.invariant bad
+    upward_finds _ (pages o.h) at.k (omega (arith, c.pages-count.ensures)) at.invariant bad
 
 pub loop-k-preserved : goal.loop-k-preserved
 loop-k-preserved c =
     let o : Open = c.args.self.now in
     let at : _ = c.loop-k in
     let good : damaged o.h o.image.now o.map.now at.k ≡ false = ap not (sym c.whole.ensures ∙ c.if-not-whole.false) in
-    upward_goes_on _ (pages o.h) at.k (omega (arith, c.pages-k-end.ensures)) at.invariant good
+    upward_goes_on _ (pages o.h) at.k (omega (arith, c.pages-count.ensures)) at.invariant good
 
 pub returns : goal.returns
-returns c = upward_ends _ (pages c.args.self.now.h) c.loop-k.k (omega (arith, c.pages-k-end.ensures)) c.loop-k.invariant
+returns c = upward_ends _ (pages c.args.self.now.h) c.loop-k.k (omega (arith, c.pages-count.ensures)) c.loop-k.invariant

@@ -8,7 +8,7 @@ use native.Mathlib.Omega.{arith}
 use lib.ListN.{length}
 use borrow.Author.Tests.{lt-ltb, le-ltb}
 use Rattle.units.specs.Filling.{outcome_of}
-use Rattle.units.proofs.Writing.{written_whole}
+use Rattle.units.proofs.Writing.{part_put_lem}
 use Rattle.map.specs.Files.{pages}
 use Rattle.load.specs.declared.Open.{Open}
 use Rattle.load.specs.Loads.{lowest_damaged, open_load}
@@ -30,4 +30,4 @@ returns c =
     let o : Open = c.args.self.now in
     let none : pages o.h ≤ lowest_damaged o.h o.image.now o.map.now = lowest_none _ (pages o.h) (sym c.lowest_damaged.ensures ∙ c.in_default.is) in
     simp (le-ltb _ _ none)
-    (ap (outcome_of (Ok (record { count = length o.image.now }))) (c.copy_from_slice.ensures.after ∙ sym (written_whole c.args.table.now o.image.now c.requires)))
+    (ap (outcome_of (Ok (record { count = length o.image.now }))) (c.put_part.ensures ∙ part_put_lem o.image.now c.args.table.now 0 (omega (arith, c.requires))))

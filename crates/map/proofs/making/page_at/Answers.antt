@@ -9,14 +9,28 @@ use Rattle.std.proofs.lemmas.List.{take_min, drop_min}
 use Rattle.map.specs.Buckets.{page_at}
 use Rattle.map.proofs.making.page_at.Goals as goal
 
-pub returns : goal.returns
+-- what stands from one place to the other
+between : (size k : ℕ) (bucket : List ℕ) (start end : ℕ) → start ≡ min (k * size) (length bucket) → end - start ≡ min size (length (drop start bucket))
+    → take (end - start) (drop start bucket) ≡ page_at size bucket k
 unfolding page_at
+between size k bucket start end here long =
+    ap (λ (m : ℕ). take m (drop start bucket)) long ∙ take_min size (drop start bucket)
+    ∙ ap (take size) (ap (λ (m : ℕ). drop m bucket) here ∙ drop_min (k * size) bucket)
+
+pub returns : goal.returns
 returns c =
     let size : ℕ = c.args.page.count in
     let bucket : List ℕ = c.args.bucket.now in
     let start : ℕ = c.min-start.result in
-    let here : start ≡ min (c.args.k * size) (length bucket) = omega (arith, c.saturating_mul.ensures, c.min-start.ensures) in
-    let long : c.min-end.result - start ≡ min size (length (drop start bucket)) =
-    omega (arith, length-drop start bucket, c.min-start.ensures, c.saturating_add.ensures, c.min-end.ensures) in
-    ap (λ (m : ℕ). take m (drop start bucket)) long ∙ take_min size (drop start bucket)
-    ∙ ap (take size) (ap (λ (m : ℕ). drop m bucket) here ∙ drop_min (c.args.k * size) bucket)
+    between size c.args.k bucket start c.min-end.result (omega (arith, c.saturating_mul.ensures, c.min-start.ensures))
+    (omega (arith, length-drop start bucket, c.min-start.ensures, c.saturating_add.ensures, c.min-end.ensures))
+
+pub returns-then-start-end : goal.returns-then-start-end
+returns-then-start-end c =
+    let size : ℕ = c.args.page.count in
+    let bucket : List ℕ = c.args.bucket.now in
+    let start : ℕ = c.min-start.result in
+    let none : 0 ≡ c.min-end.result - start = omega (arith, c.if-start-end.true) in
+    ap (λ (m : ℕ). take m (drop start bucket)) none
+    ∙ between size c.args.k bucket start c.min-end.result (omega (arith, c.saturating_mul.ensures, c.min-start.ensures))
+    (omega (arith, length-drop start bucket, c.min-start.ensures, c.saturating_add.ensures, c.min-end.ensures))

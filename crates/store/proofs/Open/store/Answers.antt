@@ -19,18 +19,18 @@ use Rattle.store.proofs.Open.store.Goals as goal
 pub loop-answer-init : goal.loop-answer-init
 loop-answer-init c = ((refl, refl, refl, refl), none_through (ready c.args.self.now), none_noted)
 
-pub returns-in_err-answer-clause-stored : goal.returns-in_err-answer-clause-stored
-returns-in_err-answer-clause-stored c =
+pub returns-in_default-clause-stored : goal.returns-in_default-clause-stored
+returns-in_default-clause-stored c =
     let loop : _ = c.loop-answer in
     let e : _ = stepped c.args.self.now loop.self loop.place loop.invariant.0 c.step-step.ensures.stepped in
-    absurd (on_refused (ready c.args.self.now) loop.invariant.1 e c.in_err-answer.was)
+    absurd (on_refused (ready c.args.self.now) loop.invariant.1 e c.in_default.not-Ok)
 
 pub loop-answer-smaller-in-Kept : goal.loop-answer-smaller-in-Kept
 loop-answer-smaller-in-Kept c =
     let old : Open = c.args.self.now in
     let loop : _ = c.loop-answer in
     let e : _ = stepped old loop.self loop.place loop.invariant.0 c.step-step.ensures.stepped in
-    let p : Passed (ready old) loop.invariant.1 e × _ = on_kept (ready old) loop.invariant.1 e (c.in_ok-answer.was ∙ ap Ok c.in-Kept.is) in
+    let p : Passed (ready old) loop.invariant.1 e × _ = on_kept (ready old) loop.invariant.1 e (c.in-Ok.is ∙ ap Ok c.in-Kept.is) in
     omega (arith, p.0.up, p.0.inside)
 
 pub loop-answer-preserved-in-Kept : goal.loop-answer-preserved-in-Kept
@@ -38,7 +38,7 @@ loop-answer-preserved-in-Kept c =
     let old : Open = c.args.self.now in
     let loop : _ = c.loop-answer in
     let e : _ = stepped old loop.self loop.place loop.invariant.0 c.step-step.ensures.stepped in
-    let p : Passed (ready old) loop.invariant.1 e × _ = on_kept (ready old) loop.invariant.1 e (c.in_ok-answer.was ∙ ap Ok c.in-Kept.is) in
+    let p : Passed (ready old) loop.invariant.1 e × _ = on_kept (ready old) loop.invariant.1 e (c.in-Ok.is ∙ ap Ok c.in-Kept.is) in
     (then_as old loop.self c.step-step.new.self loop.invariant.0 c.step-step.ensures.same_backup, p.0.next, noted_kept loop.invariant.2 p.0.up p.1)
 
 pub offset_bounds-list-found : goal.offset_bounds-list-found
@@ -53,7 +53,7 @@ bounds-list-found c =
     let enough : pages old.h ≤ length c.args.list.now = omega (arith, c.pages-count.ensures) in
     let loop : _ = c.loop-answer in
     let e : _ = stepped old loop.self loop.place loop.invariant.0 c.step-step.ensures.stepped in
-    let p : Passed (ready old) loop.invariant.1 e × _ × _ = on_written (ready old) loop.invariant.1 e (c.in_ok-answer.was ∙ ap Ok c.in-Written.is) in
+    let p : Passed (ready old) loop.invariant.1 e × _ × _ = on_written (ready old) loop.invariant.1 e (c.in-Ok.is ∙ ap Ok c.in-Written.is) in
     let long : length loop.list ≡ length c.args.list.now = noted_length loop.invariant.2 (omega (arith, p.0.inside, enough)) in
     omega (arith, p.0.inside, enough, noted_below loop.invariant.2)
 
@@ -68,7 +68,7 @@ loop-answer-smaller c =
     let old : Open = c.args.self.now in
     let loop : _ = c.loop-answer in
     let e : _ = stepped old loop.self loop.place loop.invariant.0 c.step-step.ensures.stepped in
-    let p : Passed (ready old) loop.invariant.1 e × _ × _ = on_written (ready old) loop.invariant.1 e (c.in_ok-answer.was ∙ ap Ok c.in-Written.is) in
+    let p : Passed (ready old) loop.invariant.1 e × _ × _ = on_written (ready old) loop.invariant.1 e (c.in-Ok.is ∙ ap Ok c.in-Written.is) in
     omega (arith, p.0.up, p.0.inside)
 
 pub loop-answer-preserved : goal.loop-answer-preserved
@@ -77,7 +77,7 @@ loop-answer-preserved c =
     let enough : pages old.h ≤ length c.args.list.now = omega (arith, c.pages-count.ensures) in
     let loop : _ = c.loop-answer in
     let e : _ = stepped old loop.self loop.place loop.invariant.0 c.step-step.ensures.stepped in
-    let p : Passed (ready old) loop.invariant.1 e × _ × _ = on_written (ready old) loop.invariant.1 e (c.in_ok-answer.was ∙ ap Ok c.in-Written.is) in (
+    let p : Passed (ready old) loop.invariant.1 e × _ × _ = on_written (ready old) loop.invariant.1 e (c.in-Ok.is ∙ ap Ok c.in-Written.is) in (
       then_as old loop.self c.step-step.new.self loop.invariant.0 c.step-step.ensures.same_backup,
       p.0.next,
       noted_written loop.invariant.2 p.0.up p.2 p.1 (omega (arith, p.0.inside, enough)),
@@ -89,6 +89,6 @@ returns-in-Finished-clause-stored c =
     let enough : pages old.h ≤ length c.args.list.now = omega (arith, c.pages-count.ensures) in
     let loop : _ = c.loop-answer in
     let e : _ = stepped old loop.self loop.place loop.invariant.0 c.step-step.ensures.stepped in
-    let d : Done (ready old) loop.invariant.1 e = on_finished (ready old) loop.invariant.1 e (c.in_ok-answer.was ∙ ap Ok c.in-Finished.is) in
+    let d : Done (ready old) loop.invariant.1 e = on_finished (ready old) loop.invariant.1 e (c.in-Ok.is ∙ ap Ok c.in-Finished.is) in
     ap₂ (λ (i m : List ℕ). stored_of (Ok loop.found) i m loop.list) d.image_kept d.map_kept
     ∙ all_through d.all enough loop.invariant.1 loop.invariant.2
