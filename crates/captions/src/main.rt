@@ -7,40 +7,46 @@ use program::Buffer;
 use units::{Bytes, Refusal};
 
 #[derive(Drop)]
-struct Desk {
-    caption: Buffer<u8, 65_538>,
-    pattern: Buffer<u8, 200_000>,
-    output: Buffer<u8, 65_538>,
-    list: Buffer<usize, 32_770>,
+struct Desk<'a> {
+    caption: &'a mut Buffer<u8, 65_538>,
+    pattern: &'a mut Buffer<u8, 200_000>,
+    output: &'a mut Buffer<u8, 65_538>,
+    list: &'a mut Buffer<usize, 32_770>,
 }
 
 fn main() {
     let mut room = [0u8; 16_384];
     let (commands, _) = program::input(&mut room).as_chunks::<4>();
+    // Each where it is to stand: as parts of the desk they would be made elsewhere first, and the stack would hold them twice.
+    let mut caption = Buffer {
+        all: [0; 65_538],
+        lent: 0,
+    };
+    let mut pattern = Buffer {
+        all: [0; 200_000],
+        lent: 0,
+    };
+    let mut output = Buffer {
+        all: [0xEE; 65_538],
+        lent: 0,
+    };
+    let mut list = Buffer {
+        all: [0; 32_770],
+        lent: 0,
+    };
+    list.all.fill(99);
     let mut desk = Desk {
-        caption: Buffer {
-            all: [0; 65_538],
-            lent: 0,
-        },
-        pattern: Buffer {
-            all: [0; 200_000],
-            lent: 0,
-        },
-        output: Buffer {
-            all: [0xEE; 65_538],
-            lent: 0,
-        },
-        list: Buffer {
-            all: [99; 32_770],
-            lent: 0,
-        },
+        caption: &mut caption,
+        pattern: &mut pattern,
+        output: &mut output,
+        list: &mut list,
     };
     for [letter, low, middle, high] in commands {
         desk.command(*letter, u16::from_le_bytes([*low, *middle]), *high);
     }
 }
 
-impl Desk {
+impl Desk<'_> {
     // The number is x and 65,536 times high; where a byte is set, x is its place and high the byte.
     fn command(&mut self, letter: u8, x: u16, high: u8) {
         let place = usize::from(x);

@@ -144,7 +144,8 @@ impl<'a> Signed<'a> {
     }
 }
 
-// The lowest i below m for which a · α^i is b.
+// The lowest i below m for which a · α^i is b. Not inlined: in its caller, where the linker puts the loop may cost half its time again.
+#[inline(never)]
 fn power_between(a: u16, b: u16, m: usize) -> Option<usize>
     ensures { result ≡ lowest_named (λ i. eqb (field_product GF16 a (field_power GF16 α i)) b) m }
 {
