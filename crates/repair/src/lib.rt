@@ -144,7 +144,7 @@ impl<'a> Signed<'a> {
     }
 }
 
-// The lowest i below m for which a · α^i is b. Not inlined: in its caller, where the linker puts the loop may cost half its time again.
+// The lowest i below m for which a · α^i is b. Not inlined: as a part of `find` the loop takes up to 1.5 times as long, by where the linker puts it.
 #[inline(never)]
 fn power_between(a: u16, b: u16, m: usize) -> Option<usize>
     ensures { result ≡ lowest_named (λ i. eqb (field_product GF16 a (field_power GF16 α i)) b) m }

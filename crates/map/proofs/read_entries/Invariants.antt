@@ -9,4 +9,5 @@ use Rattle.map.proofs.read_entries.Given as goal
 
 abbrev pub invariant-loop-k : goal.invariant-loop-k
 invariant-loop-k l =
-    first (entry_tests l.h.n l.map (pages l.h - l.k) l.place) ≡ first (entry_tests l.h.n l.map (pages l.h) 18)
+    (first (entry_tests l.h.n l.map (pages l.h - l.k) l.fields.place) ≡ first (entry_tests l.h.n l.map (pages l.h) 18))
+    × (l.fields.bytes.now ≡ l.map)
