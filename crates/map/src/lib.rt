@@ -106,6 +106,8 @@ pub fn pages(h: Header) -> usize
     units::pages_of(h.page, h.bucket)
 }
 
+// Not inlined, as `read` is not: among other code the loop over the entries takes up to 1.7 times as long, by where the linker puts it.
+#[inline(never)]
 fn read_header(map: &[u8]) -> Result<Header, Break>
     ensures { result ≡ told (first (header_tests map.now)) (header_of map.now) }
 {
@@ -127,8 +129,7 @@ fn read_header(map: &[u8]) -> Result<Header, Break>
     Ok(h)
 }
 
-// One entry a page, and nothing after the last. Not inlined: as a part of `read` the loop takes up to 1.7 times as long, by where the linker puts it.
-#[inline(never)]
+// One entry a page, and nothing after the last.
 #[tactic(auto, using(crate::proofs::Entries::ends_kept, crate::proofs::Entries::ends_broken))]
 fn read_entries(h: Header, map: &[u8]) -> Result<Header, Break>
     requires { h.n ≤ 4 }
@@ -150,6 +151,7 @@ fn read_entries(h: Header, map: &[u8]) -> Result<Header, Break>
 
 // The whole map: the place of its first break, or what its header holds.
 #[tactic(auto, using(crate::proofs::Headers::read_broken, crate::proofs::Headers::read_on))]
+#[inline(never)]
 pub fn read(map: &[u8]) -> Result<Header, Break>
     ensures { result ≡ reading map.now }
 {
