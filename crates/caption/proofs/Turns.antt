@@ -5,13 +5,10 @@ use mathlib.Core.List.{List, ◌++◌}
 use lib.ListN.{length, get_or, take, drop, length-append, get_or-append}
 use Prim.Native.Nat.{ℕ, ◌≤◌, ◌<◌, min}
 use native.Mathlib.Omega.{arith}
-use Rattle.std.specs.Ordering.{ord_min, nat_cmp}
-use Rattle.std.proofs.Common.{rules}
 use Rattle.std.proofs.lemmas.List.{length-take-le, length-drop, get_or-take}
 use Rattle.weights.specs.Blocks.{Set}
 use Rattle.weights.proofs.Turns.{in_both}
 use Rattle.field.specs.Field.{GF16, product}
-
 
 -- a block of 16 whose first n symbols were read anew
 pub record Refilled (n : ℕ) (block read : List ℕ) : Type 0 where

@@ -8,8 +8,7 @@ use native.Mathlib.Nat.{add-zero, add-suc, suc-add, le_refl}
 use native.Mathlib.Numerals.{add-one}
 use native.Mathlib.Omega.{arith}
 use lib.ListN.{length, get_or, take, drop, set, length-append, length-set, drop_of_length-le, get_or-append}
-use lib.Seq.{drop-drop, sets, sets-eq, length-sets, length-take-le, set_comm, take_at, drop_at, get_or-take, get_or-drop}
-use borrow.Rule.Slice.PartMut.{put_mid}
+use lib.Seq.{sets, sets-eq, length-sets, length-take-le, set_comm, take_at, drop_at, get_or-take, get_or-drop}
 use borrow.Author.Tests.{le-leb, lt-leb}
 use Rattle.units.specs.Writing.{written, part_put, Put, put_of, put}
 

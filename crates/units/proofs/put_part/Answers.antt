@@ -8,7 +8,7 @@ use native.Mathlib.Numerals.{add-one}
 use lib.Seq.{drop-cons, drop-length}
 use lib.ListN.{length, get_or, drop, set, length-set, length-drop}
 use Rattle.units.specs.Writing.{written}
-use Rattle.units.proofs.Writing.{written_none, written_cons, part_put_lem, part_not_put}
+use Rattle.units.proofs.Writing.{written_none, written_cons, part_put_lem}
 use Rattle.units.proofs.put_part.Goals as goal
 
 pub loop-i-preserved : goal.loop-i-preserved

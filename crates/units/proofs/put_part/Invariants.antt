@@ -1,7 +1,7 @@
 -- `units::put_part` meets its contract. The invariant: what is left to write gives what the whole gives.
 -- Assumes nothing.
 use mathlib.Core.Path.{◌≡◌}
-use Prim.Native.Nat.{◌+◌, ◌-◌, ◌≤◌}
+use Prim.Native.Nat.{◌+◌, ◌≤◌}
 use lib.ListN.{length, drop}
 use Rattle.units.specs.Writing.{written}
 use Rattle.units.proofs.put_part.Given as goal
