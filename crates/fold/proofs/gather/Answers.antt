@@ -1,6 +1,7 @@
 -- `fold::gather` meets its contract. The invariant: what stands at the first offsets is summed.
 -- Assumes nothing.
-use mathlib.Core.Path.{refl}
+use mathlib.Core.Path.{refl, ap, ◌∙◌}
+use Prim.Native.Nat.{ℕ, ◌+◌}
 use native.Mathlib.Omega.{arith}
 use lib.ListN.{get_or}
 use Rattle.field.specs.Field.{◌⊕◌}
@@ -28,4 +29,5 @@ bounds-window-i g c =
 pub loop-offset-preserved : goal.loop-offset-preserved
 unfolding ◌⊕◌
 loop-offset-preserved g c =
-    gathered_more c.args.x c.offsets-offset-items.result.now (λ k. get_or c.args.window.now k 0) c.args.i c.loop-offset.offset-index c.loop-offset-test.true c.loop-offset.invariant
+    ap (λ (offset : ℕ). c.loop-offset.sum ⊕ get_or c.args.window.now (c.args.i + offset) 0) (omega arith)
+    ∙ gathered_more c.args.x c.offsets-offset-items.result.now (λ k. get_or c.args.window.now k 0) c.args.i c.loop-offset.offset-index c.loop-offset-test.true c.loop-offset.invariant
