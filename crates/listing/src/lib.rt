@@ -86,6 +86,7 @@ impl<'a> Writer<'a> {
         self.digits(10, width(x), x);
     }
 
+    #[tactic(auto, using(crate::proofs::Digits::digits_length), unfolding(crate::specs::Digits::hex))]
     fn hex(&mut self, x: usize)
         requires { HasRoom (hex x) self.old }
         ensures { Puts (hex x) self.old self.new }

@@ -188,7 +188,7 @@ impl<'a> Open<'a> {
                     list[found] = k;
                     found += 1;
                 }
-                Answer::Finished => return Ok(found),
+                Answer::Finished => return ended(step.answer, found),
             }
         }
     }

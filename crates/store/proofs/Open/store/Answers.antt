@@ -1,7 +1,10 @@
 -- `store::Open::store` meets its contract. The invariant: the pages before the place are through, and those written are listed.
 -- Assumes nothing.
 use mathlib.Core.Path.{◌≡◌, refl, ap, ap₂, ◌∙◌}
-use Rattle.std.specs.Prelude.{Ok}
+use Rattle.std.specs.Prelude.{Ok, Result}
+use Rattle.units.specs.declared.Refusal.{Refusal}
+use Rattle.units.specs.Naming.{Listed}
+use Rattle.store.specs.declared.Answer.{Answer}
 use Rattle.std.proofs.Common.{List}
 use Prim.Native.Nat.{ℕ, ◌≤◌}
 use native.Mathlib.Omega.{arith}
@@ -9,7 +12,7 @@ use lib.ListN.{length}
 use Rattle.map.specs.Files.{pages}
 use Rattle.map.proofs.Holding.{holds_sized}
 use Rattle.backup.proofs.Bounds.{few_pages}
-use Rattle.store.specs.Stores.{stored_of}
+use Rattle.store.specs.Stores.{stored_of, ended_by}
 use Rattle.store.specs.declared.Open.{Open}
 use Rattle.store.proofs.Underway.{none_noted, noted_below, noted_length, noted_kept, noted_written, none_through}
 use Rattle.store.proofs.Underway.{Passed, Done, on_kept, on_written, on_finished, on_refused, all_through}
@@ -90,5 +93,7 @@ returns-in-Finished-clause-stored c =
     let loop : _ = c.loop-answer in
     let e : _ = stepped old loop.self loop.place loop.invariant.0 c.step-step.ensures.stepped in
     let d : Done (ready old) loop.invariant.1 e = on_finished (ready old) loop.invariant.1 e (c.in-Ok.is ∙ ap Ok c.in-Finished.is) in
-    ap₂ (λ (i m : List ℕ). stored_of (Ok loop.found) i m loop.list) d.image_kept d.map_kept
+    let answer : c.ended-in-Finished.result ≡ Ok loop.found = c.ended-in-Finished.ensures ∙ ap (λ (a : Result Answer Refusal). ended_by a loop.found) (c.in-Ok.is ∙ ap Ok c.in-Finished.is) in
+    ap₂ (λ (i m : List ℕ). stored_of c.ended-in-Finished.result i m loop.list) d.image_kept d.map_kept
+    ∙ ap (λ (a : Listed). stored_of a loop.self.image.now loop.self.map.now loop.list) answer
     ∙ all_through d.all enough loop.invariant.1 loop.invariant.2
