@@ -17,7 +17,7 @@ struct Desk<'a> {
 fn main() {
     let mut room = [0u8; 16_384];
     let (commands, _) = program::input(&mut room).as_chunks::<4>();
-    // Each where it is to stand: as parts of the desk they would be made elsewhere first, and the stack would hold them twice.
+    // Each where it is to stand, and the list filled there: as parts of the desk, or made of 99s, they would be made elsewhere first, and the stack would hold them twice.
     let mut caption = Buffer {
         all: [0; 65_538],
         lent: 0,
